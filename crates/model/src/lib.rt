@@ -1,5 +1,6 @@
 // The words of the subject: versions, faults, phases, marks, steps, answers and refusals.
 // What they mean, and what each call does, is defined in `specs/`.
+pub mod plan;
 pub mod answer;
 pub mod fault;
 pub mod numbers;
@@ -21,6 +22,7 @@ pub use fault::FaultEq;
 pub use fault::FaultPartialEq;
 pub use phase::Mark;
 pub use phase::Phase;
+pub use plan::Plan;
 pub use version::Content;
 pub use version::Version;
 pub use version::Write;
