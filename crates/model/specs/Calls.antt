@@ -65,7 +65,7 @@ rules (call-notice reach) w = not-opened w ∷ []
 abbrev pub noting-read : ℕ → ℕ → World → World
 noting-read t g w =
     with-slots (adjust t (with-notes (noted-read (own-of w t g) g (slot-with w t .notes)))
-      (w .slots)) w
+    (w .slots)) w
 
 -- the record of a write
 abbrev pub recording : ℕ → ℕ → Content → World → World
@@ -74,8 +74,9 @@ recording t g c w =
 
 abbrev pub opened-with : World → Opened
 opened-with w = record {
-    granules = w .store .archive .count; last = latest-of (w .store .archive)
-  }
+  granules = w .store .archive .count;
+  last = latest-of (w .store .archive);
+}
 
 -- the phase with a number
 abbrev pub phase-of : ℕ → Phase
@@ -85,9 +86,11 @@ phase-of n =
 
 abbrev pub status-with : World → ℕ → Status
 status-with w t = record {
-    phase = phase-of (slot-with w t .phase); attempt = slot-with w t .attempt;
-    older = older t w; notes = length (slot-with w t .notes)
-  }
+  phase = phase-of (slot-with w t .phase);
+  attempt = slot-with w t .attempt;
+  older = older t w;
+  notes = length (slot-with w t .notes);
+}
 
 -- what an accepted call leaves
 abbrev pub after : Call → World → World

@@ -93,8 +93,14 @@ pub record Slot : Type 0 where
 
 abbrev pub slot : ℕ → ℕ → ℕ → List ℕ → List Write → ℕ → Mark → Slot
 slot t a p ns ws k m = record {
-    stamp = t; attempt = a; phase = p; notes = ns; writes = ws; puts = k; mark = m
-  }
+  stamp = t;
+  attempt = a;
+  phase = p;
+  notes = ns;
+  writes = ws;
+  puts = k;
+  mark = m;
+}
 
 abbrev pub free-slot : Slot
 free-slot = slot 0 0 0 [] [] 0 Unmarked

@@ -45,19 +45,21 @@ older t w = tally (older-live t) (w .slots)
 -- granule g with the version v behind its others, and one free place fewer
 abbrev pub append-to : Stored → ℕ → Version → Stored
 append-to s g v = record {
-    archive = record {
-      count = s .archive .count;
-      history = λ h. cond (eqb h g) (s .archive .history h ++ (v ∷ [])) (s .archive .history h);
-      reach = s .archive .reach
-    };
-    room = λ h. cond (eqb h g) (s .room h - 1) (s .room h)
-  }
+  archive = record {
+    count = s .archive .count;
+    history = λ h. cond (eqb h g) (s .archive .history h ++ (v ∷ [])) (s .archive .history h);
+    reach = s .archive .reach;
+  };
+  room = λ h. cond (eqb h g) (s .room h - 1) (s .room h);
+}
 
 -- the same store with other granules within reach
 abbrev pub reaching : (ℕ → Bool) → Stored → Stored
 reaching r s = record {
-    archive = record {
-      count = s .archive .count; history = s .archive .history; reach = r
-    };
-    room = s .room
-  }
+  archive = record {
+    count = s .archive .count;
+    history = s .archive .history;
+    reach = r;
+  };
+  room = s .room;
+}

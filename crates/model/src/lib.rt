@@ -1,10 +1,10 @@
 // The words of the subject: versions, faults, phases, marks, steps, answers and refusals.
 // What they mean, and what each call does, is defined in `specs/`.
-pub mod plan;
 pub mod answer;
 pub mod fault;
 pub mod numbers;
 pub mod phase;
+pub mod plan;
 pub mod version;
 
 pub use answer::Opened;

@@ -1,0 +1,5 @@
+// A list of at most N items in fixed memory.
+mod list;
+mod ops;
+
+pub use list::Bounded;
