@@ -25,8 +25,8 @@ use Rattle.model.specs.Archives.{latest-of}
 use Rattle.model.specs.Slots.{Slot, new-slot, free-slot, with-notes, with-writes, in-phase}
 use Rattle.model.specs.Slots.{in-section, set-own, noted-read, adjust, place, woken}
 use Rattle.model.specs.Worlds.{World, world, with-slots, slot-with, own-of, older, reaching}
-use Rattle.model.specs.Refusals.{Rule, refusal, not-opened, already-opened, bad-stamp}
-use Rattle.model.specs.Refusals.{no-free-slot, no-transaction, of-attempt, on-reading, on-writing}
+use Rattle.model.specs.Refusals.{Rule, Refused, refusal, not-opened, already-opened, bad-stamp}
+use Rattle.model.specs.Refusals.{no-free-slot, no-transaction, of-phase, on-reading, on-writing}
 use Rattle.model.specs.Refusals.{foreign-code, running, running-or-waiting, read-code}
 use Rattle.model.specs.Plans.{plan-of, after-plan, put-plan, step-of, plan-refused}
 
@@ -55,22 +55,22 @@ rules (call-begin t) w = not-opened w ∷ bad-stamp w t ∷ no-free-slot w ∷ [
 rules (call-read t a g kind) w = on-reading w t a g ++ (foreign-code kind (read-code w t g) ∷ [])
 rules (call-write t a g c kind) w = on-writing w t a g ++ (foreign-code kind (Some c) ∷ [])
 rules (call-erase t a g) w = on-writing w t a g
-rules (call-commit t a) w = not-opened w ∷ of-attempt w t a running
-rules (call-roll-back t a) w = not-opened w ∷ of-attempt w t a running-or-waiting
+rules (call-commit t a) w = not-opened w ∷ of-phase (w .slots) t a running
+rules (call-roll-back t a) w = not-opened w ∷ of-phase (w .slots) t a running-or-waiting
 rules call-advance w = not-opened w ∷ plan-refused (plan-of (w .slots)) (w .store)
-rules (call-status t) w = not-opened w ∷ no-transaction w t ∷ []
+rules (call-status t) w = not-opened w ∷ no-transaction (w .slots) t ∷ []
 rules (call-notice reach) w = not-opened w ∷ []
 
 -- the note that a read takes
 abbrev pub noting-read : ℕ → ℕ → World → World
 noting-read t g w =
-    with-slots (adjust t (with-notes (noted-read (own-of w t g) g (slot-with w t .notes)))
+    with-slots (adjust t (with-notes (noted-read (own-of (w .slots) t g) g (slot-with (w .slots) t .notes)))
     (w .slots)) w
 
 -- the record of a write
 abbrev pub recording : ℕ → ℕ → Content → World → World
 recording t g c w =
-    with-slots (adjust t (with-writes (set-own g c (slot-with w t .writes))) (w .slots)) w
+    with-slots (adjust t (with-writes (set-own g c (slot-with (w .slots) t .writes))) (w .slots)) w
 
 abbrev pub opened-with : World → Opened
 opened-with w = record {
@@ -84,12 +84,13 @@ phase-of n =
     cond (eqb n 1) P.Running (cond (eqb n 2) P.Waiting (cond (eqb n 3) P.Section
     (cond (eqb n 4) P.Checking (cond (eqb n 5) P.Committed P.Free))))
 
-abbrev pub status-with : World → ℕ → Status
-status-with w t = record {
-  phase = phase-of (slot-with w t .phase);
-  attempt = slot-with w t .attempt;
-  older = older t w;
-  notes = length (slot-with w t .notes);
+-- a slot's status, with so many older live transactions
+abbrev pub status-of : Slot → ℕ → Status
+status-of x n = record {
+  phase = phase-of (x .phase);
+  attempt = x .attempt;
+  older = n;
+  notes = length (x .notes);
 }
 
 -- what an accepted call leaves
@@ -100,7 +101,7 @@ after (call-read t a g kind) w = noting-read t g w
 after (call-write t a g c kind) w = recording t g (Entry c) w
 after (call-erase t a g) w = recording t g Absence w
 after (call-commit t a) w =
-    with-slots (adjust t (cond (eqb (older t w) 0) in-section (in-phase 2)) (w .slots)) w
+    with-slots (adjust t (cond (eqb (older t (w .slots)) 0) in-section (in-phase 2)) (w .slots)) w
 after (call-roll-back t a) w = with-slots (woken (adjust t (λ x. free-slot) (w .slots))) w
 after call-advance w =
     world (w .opened) (w .last) (after-plan (plan-of (w .slots)) (w .slots))
@@ -116,10 +117,10 @@ reply (call-begin t) w = Y.Began 1
 reply (call-read t a g kind) w = Y.Read (read-code w t g)
 reply (call-write t a g c kind) w = Y.Recorded
 reply (call-erase t a g) w = Y.Recorded
-reply (call-commit t a) w = Y.Committing (cond (eqb (older t w) 0) P.Section P.Waiting)
+reply (call-commit t a) w = Y.Committing (cond (eqb (older t (w .slots)) 0) P.Section P.Waiting)
 reply (call-roll-back t a) w = Y.RolledBack
 reply call-advance w = Y.Stepped (step-of (plan-of (w .slots)))
-reply (call-status t) w = Y.Status (status-with w t)
+reply (call-status t) w = Y.Status (status-of (slot-with (w .slots) t) (older t (w .slots)))
 reply (call-notice reach) w = Y.Noticed
 
 -- a refused call leaves all as it was, but 15 keeps the note that its read took
@@ -135,9 +136,9 @@ spared call-advance n w = w
 spared (call-status t) n w = w
 spared (call-notice reach) n w = w
 
-abbrev pub answered : Option Rule → Call → World → World × Answer
+abbrev pub answered : Option Refused → Call → World → World × Answer
 answered None c w = (after c w, accepted (reply c w))
-answered (Some r) c w = (spared c (r .number) w, refused (r .number) (r .returns))
+answered (Some r) c w = (spared c (r .0) w, refused (r .0) (r .1))
 
 -- what a call does to a certifier beside its store, and its answer
 abbrev pub step : Call → World → World × Answer

@@ -7,7 +7,7 @@ use lib.ListN.{length}
 use Rattle.std.specs.Options.{isSome}
 use Rattle.std.specs.declared.option.Option.{Option}
 use Rattle.std.specs.declared.option.Option.the-variants.{Some, None}
-use Rattle.model.specs.Slots.{held, own, note-fits, oldest, other-section, other-writer}
+use Rattle.model.specs.Slots.{Slot, held, own, note-fits, oldest, other-section, other-writer}
 use Rattle.model.specs.Slots.{full, tally, read-answer}
 use Rattle.model.specs.Worlds.{World, or-free, slot-with, own-of}
 
@@ -20,9 +20,13 @@ pub record Rule : Type 0 where
 abbrev pub rule : Bool → ℕ → List ℕ → Rule
 rule b n xs = record { applies = b; number = n; returns = xs }
 
-abbrev pub refusal : List Rule → Option Rule
+-- a refusal's number, and what is returned with it
+abbrev pub Refused : Type 0
+Refused = ℕ × List ℕ
+
+abbrev pub refusal : List Rule → Option Refused
 refusal [] = None
-refusal (r ∷ rs) = cond (r .applies) (Some r) (refusal rs)
+refusal (r ∷ rs) = cond (r .applies) (Some (r .number, r .returns)) (refusal rs)
 
 abbrev pub is-none : {X : Type 0} → Option X → Bool
 is-none o = not (isSome o)
@@ -51,43 +55,45 @@ abbrev pub no-granule : World → ℕ → Rule
 no-granule w g = rule (not (ltb g (w .store .archive .count))) 5 []
 
 -- 7: no slot has this stamp
-abbrev pub no-transaction : World → ℕ → Rule
-no-transaction w t = rule (is-none (held t (w .slots))) 7 []
+abbrev pub no-transaction : List Slot → ℕ → Rule
+no-transaction xs t = rule (is-none (held t xs)) 7 []
 
 -- 8: not the present attempt, which is returned
-abbrev pub old-attempt : World → ℕ → ℕ → Rule
-old-attempt w t a = rule (not (eqb (slot-with w t .attempt) a)) 8 (slot-with w t .attempt ∷ [])
+abbrev pub old-attempt : List Slot → ℕ → ℕ → Rule
+old-attempt xs t a =
+    rule (not (eqb (slot-with xs t .attempt) a)) 8 (slot-with xs t .attempt ∷ [])
 
 -- 9: not a phase that the call needs; the phase is returned
-abbrev pub wrong-phase : World → ℕ → (ℕ → Bool) → Rule
-wrong-phase w t needed = rule (not (needed (slot-with w t .phase))) 9 (slot-with w t .phase ∷ [])
+abbrev pub wrong-phase : List Slot → ℕ → (ℕ → Bool) → Rule
+wrong-phase xs t needed =
+    rule (not (needed (slot-with xs t .phase))) 9 (slot-with xs t .phase ∷ [])
 
 -- 10: another's open section writes the granule; its stamp is returned
-abbrev pub section-writes : World → ℕ → ℕ → Rule
-section-writes w t g =
-    rule (isSome (oldest (other-section t g) (w .slots))) 10
-    (or-free (oldest (other-section t g) (w .slots)) .stamp ∷ [])
+abbrev pub section-writes : List Slot → ℕ → ℕ → Rule
+section-writes xs t g =
+    rule (isSome (oldest (other-section t g) xs)) 10
+    (or-free (oldest (other-section t g) xs) .stamp ∷ [])
 
 -- 11: the store refuses to tell the granule's newest version; granule and fault are returned
 abbrev pub not-told : World → ℕ → ℕ → Rule
 not-told w t g =
-    rule (is-none (own-of w t g) && not (w .store .archive .reach g)) 11 (g ∷ 22 ∷ [])
+    rule (is-none (own-of (w .slots) t g) && not (w .store .archive .reach g)) 11 (g ∷ 22 ∷ [])
 
 -- 12: a 65th note
 abbrev pub note-65 : World → ℕ → ℕ → Rule
 note-65 w t g =
-    rule (is-none (own-of w t g) && not (note-fits g (slot-with w t .notes))) 12 []
+    rule (is-none (own-of (w .slots) t g) && not (note-fits g (slot-with (w .slots) t .notes))) 12 []
 
 -- 13: a 17th write
 abbrev pub write-17 : World → ℕ → ℕ → Rule
 write-17 w t g =
-    rule (is-none (own-of w t g) && leb 16 (length (slot-with w t .writes))) 13 []
+    rule (is-none (own-of (w .slots) t g) && leb 16 (length (slot-with (w .slots) t .writes))) 13 []
 
 -- 14: of a granule not yet written, the free places do not exceed the other writers
 abbrev pub no-place : World → ℕ → ℕ → Rule
 no-place w t g =
-    rule (is-none (own-of w t g) && leb (w .store .room g) (tally (other-writer t g) (w .slots)))
-    14 []
+    rule (is-none (own-of (w .slots) t g)
+    && leb (w .store .room g) (tally (other-writer t g) (w .slots))) 14 []
 
 -- 15: a code that is not of the entry kind; the code is returned
 abbrev pub foreign : (ℕ → Bool) → Option ℕ → Bool
@@ -109,16 +115,21 @@ running-or-waiting p = eqb p 1 || eqb p 2
 
 -- what a read of granule g by transaction t answers
 abbrev pub read-code : World → ℕ → ℕ → Option ℕ
-read-code w t g = read-answer (own-of w t g) (w .store .archive .history g)
+read-code w t g = read-answer (own-of (w .slots) t g) (w .store .archive .history g)
 
 -- a call of transaction t in its attempt a
-abbrev pub of-attempt : World → ℕ → ℕ → (ℕ → Bool) → List Rule
-of-attempt w t a needed = no-transaction w t ∷ old-attempt w t a ∷ wrong-phase w t needed ∷ []
+abbrev pub of-attempt : List Slot → ℕ → ℕ → List Rule
+of-attempt xs t a = no-transaction xs t ∷ old-attempt xs t a ∷ []
+
+-- and where that needs a phase
+abbrev pub of-phase : List Slot → ℕ → ℕ → (ℕ → Bool) → List Rule
+of-phase xs t a needed = of-attempt xs t a ++ (wrong-phase xs t needed ∷ [])
 
 -- a call of running transaction t on granule g
 abbrev pub on-granule : World → ℕ → ℕ → ℕ → List Rule
 on-granule w t a g =
-    not-opened w ∷ no-granule w g ∷ (of-attempt w t a running ++ (section-writes w t g ∷ []))
+    not-opened w ∷ no-granule w g
+    ∷ (of-phase (w .slots) t a running ++ (section-writes (w .slots) t g ∷ []))
 
 -- a write or an erasure but for the code's kind
 abbrev pub on-writing : World → ℕ → ℕ → ℕ → List Rule

@@ -31,16 +31,17 @@ abbrev pub or-free : Option Slot → Slot
 or-free None = free-slot
 or-free (Some x) = x
 
-abbrev pub slot-with : World → ℕ → Slot
-slot-with w t = or-free (held t (w .slots))
+-- the slot of transaction t
+abbrev pub slot-with : List Slot → ℕ → Slot
+slot-with xs t = or-free (held t xs)
 
 -- what transaction t has written to granule g
-abbrev pub own-of : World → ℕ → ℕ → Option Content
-own-of w t g = own g (slot-with w t .writes)
+abbrev pub own-of : List Slot → ℕ → ℕ → Option Content
+own-of xs t g = own g (slot-with xs t .writes)
 
 -- how many live transactions are older than t
-abbrev pub older : ℕ → World → ℕ
-older t w = tally (older-live t) (w .slots)
+abbrev pub older : ℕ → List Slot → ℕ
+older t xs = tally (older-live t) xs
 
 -- granule g with the version v behind its others, and one free place fewer
 abbrev pub append-to : Stored → ℕ → Version → Stored

@@ -13,11 +13,7 @@ use Rattle.std.proofs.shelf.Tests.{cases-lt}
 use Rattle.std.proofs.shelf.Ways.{tells}
 use Rattle.model.specs.Slots as M
 use Rattle.slot.specs.Changes.{first-from}
-
--- the slot at i is the one that has the stamp
-pub record Stands (t : ℕ) (xs : List M.Slot) (i : ℕ) : Type 0 where
-  pub held : M.held t xs ≡ Some (getD xs i M.free-slot)
-  pub changes : (f : M.Slot → M.Slot) → M.adjust t f xs ≡ set xs i (f (getD xs i M.free-slot))
+use Rattle.slot.specs.Means.{Stands}
 
 -- what a search that counts from n found
 pub record Found (t : ℕ) (xs : List M.Slot) (n i : ℕ) : Type 0 where

@@ -10,6 +10,7 @@ pub use conflict::first_conflict;
 pub use ops::Change;
 pub use plan::apply;
 pub use plan::plan as plan_of;
+pub use plan::release;
 pub use plan::step as step_of;
 pub use plan::wake;
 pub use search::Which;

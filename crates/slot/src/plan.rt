@@ -122,6 +122,16 @@ pub fn wake(slots: &mut [Slot])
     change(slots, stamp, Change::EnterSection);
 }
 
+// Frees the slot of the transaction with this stamp, then wakes.
+pub fn release(slots: &mut [Slot], stamp: u64)
+    ensures { λ _. ⌜ slots-of (now (slots .exit))
+        ≡ M.woken (M.adjust stamp (λ x. M.free-slot) (slots-of (now (slots .entry))))
+        ⌝ }
+{
+    change(slots, stamp, Change::Release);
+    wake(slots);
+}
+
 // The slots after the advance.
 pub fn apply(slots: &mut [Slot], plan: Plan)
     ensures { λ _. ⌜ slots-of (now (slots .exit))
