@@ -21,7 +21,7 @@ impl<T: Copy, const N: usize> Bounded<T, N> {
     pub fn len(&self) -> usize
         ensures { λ r. ⌜ r ≡ length (listed (now (self .entry))) ⌝ }
     {
-        self.used
+        self.as_slice().len()
     }
 
     pub fn as_slice(&self) -> &[T]

@@ -103,7 +103,7 @@ pub read-refused : (w w′ : World) (t a g : ℕ) (kind : ℕ → Bool) (r : Ref
     → Does w (call-read t a g kind) (refused (r .0) (r .1)) w′
 read-refused w w′ t a g kind r e s =
     let no-15 : No-15 (on-reading w t a g)
-      = (refl, (refl, (refl, (refl, (refl, (refl, (refl, (refl, tt)))))))) in
+    = (refl, (refl, (refl, (refl, (refl, (refl, (refl, (refl, tt)))))))) in
     let n : eqb (r .0) 15 ≡ false
     = not-15 (on-reading w t a g) r no-15 e in
     let u : refusal (rules (call-read t a g kind) w) ≡ Some r

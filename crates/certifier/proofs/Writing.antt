@@ -20,8 +20,8 @@ use Rattle.certifier.proofs.Rules.{past, stop}
 use Rattle.certifier.proofs.Does.{refused-by}
 
 module _ (w : World) (t a g i : ℕ) (x : M.Slot)
-  (p : (refusal (on-granule w t a g) ≡ None) × Stands t (w .slots) i)
-  (q : x ≡ getD (w .slots) i M.free-slot) where
+    (p : (refusal (on-granule w t a g) ≡ None) × Stands t (w .slots) i)
+    (q : x ≡ getD (w .slots) i M.free-slot) where
   held : M.held t (w .slots) ≡ Some x
   held = p .1 .held ∙ ap Some (sym q)
 
@@ -29,7 +29,7 @@ module _ (w : World) (t a g i : ℕ) (x : M.Slot)
   rest = past (on-granule w t a g) (write-17 w t g ∷ no-place w t g ∷ []) (p .0)
 
   pub written-before : isSome (M.own g (x .writes)) ≡ true
-    → (refusal (on-writing w t a g) ≡ None) × Stands t (w .slots) i
+      → (refusal (on-writing w t a g) ≡ None) × Stands t (w .slots) i
   written-before o = (rest ∙ rw (held, o), p .1)
 
   pub fits-before : isSome (M.own g (x .writes)) ≡ true → write-fits g (x .writes) ≡ true
@@ -41,13 +41,13 @@ module _ (w : World) (t a g i : ℕ) (x : M.Slot)
 
     module _ (l : length (x .writes) < 16) where
       pub crowded : w .store .room g ≤ M.tally (M.other-writer t g) (w .slots)
-        → refusal (on-writing w t a g) ≡ Some (14, [])
+          → refusal (on-writing w t a g) ≡ Some (14, [])
       crowded h =
           let n = le-leb (w .store .room g) (M.tally (M.other-writer t g) (w .slots)) h in
           rest ∙ rw (held, o, lt-leb 16 (length (x .writes)) l, n)
 
       pub room : M.tally (M.other-writer t g) (w .slots) < w .store .room g
-        → (refusal (on-writing w t a g) ≡ None) × Stands t (w .slots) i
+          → (refusal (on-writing w t a g) ≡ None) × Stands t (w .slots) i
       room h =
           let n = lt-leb (w .store .room g) (M.tally (M.other-writer t g) (w .slots)) h in
           (rest ∙ rw (held, o, lt-leb 16 (length (x .writes)) l, n), p .1)
@@ -56,8 +56,8 @@ module _ (w : World) (t a g i : ℕ) (x : M.Slot)
       fits-now = rw (o, lt-ltb (length (x .writes)) 16 l)
 
 pub write-refused : (w : World) (t a g n : ℕ) (kind : ℕ → Bool) (r : Refused)
-  → refusal (on-writing w t a g) ≡ Some r
-  → Does w (call-write t a g n kind) (refused (r .0) (r .1)) w
+    → refusal (on-writing w t a g) ≡ Some r
+    → Does w (call-write t a g n kind) (refused (r .0) (r .1)) w
 write-refused w t a g n kind r e =
     refused-by w (call-write t a g n kind) r
     (stop (on-writing w t a g) (foreign-code kind (Some n) ∷ []) r e) refl

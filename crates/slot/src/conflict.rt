@@ -4,7 +4,7 @@ ghost use Rattle.model.specs.Slots.{conflict};
 use model::Write;
 
 // The first granule, in order of writing, that is among the notes.
-pub fn first_conflict(writes: &[Write], notes: &[usize]) -> Option<usize>
+pub(crate) fn first_conflict(writes: &[Write], notes: &[usize]) -> Option<usize>
     ensures { λ r. ⌜ r ≡ conflict (now (writes .entry)) (now (notes .entry)) ⌝ }
 {
     let mut found = None;

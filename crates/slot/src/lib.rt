@@ -1,20 +1,17 @@
 // One transaction's slot, and what a slice of slots tells and becomes. No store and no entry kind
 // occur here, and nothing allocates.
-pub mod conflict;
-pub mod ops;
-pub mod plan;
-pub mod search;
-pub mod slot;
+mod conflict;
+mod ops;
+mod plan;
+mod search;
+mod slot;
 
-pub use conflict::first_conflict;
 pub use ops::Change;
 pub use plan::apply;
 pub use plan::plan as plan_of;
 pub use plan::release;
 pub use plan::step as step_of;
-pub use plan::wake;
 pub use search::Which;
-pub use search::change;
 pub use search::count;
 pub use search::find;
 pub use search::free_place;

@@ -64,7 +64,7 @@ impl Slot {
         self.mark = Mark::Unmarked;
     }
 
-    pub fn is_free(&self) -> bool
+    pub(crate) fn is_free(&self) -> bool
         ensures { λ r. ⌜ r ≡ M.is-free (slot-of (now (self .entry))) ⌝ }
     {
         match self.phase {
@@ -74,7 +74,7 @@ impl Slot {
     }
 
     // Whether the slot is held by the transaction with this stamp.
-    pub fn holds(&self, stamp: u64) -> bool
+    pub(crate) fn holds(&self, stamp: u64) -> bool
         ensures { λ r. ⌜ r ≡ M.holds stamp (slot-of (now (self .entry))) ⌝ }
     {
         !self.is_free() && self.stamp == stamp
@@ -94,7 +94,7 @@ impl Slot {
     }
 
     // The write that is to be appended next.
-    pub fn next_write(&self) -> Option<Write>
+    pub(crate) fn next_write(&self) -> Option<Write>
         ensures { λ r. ⌜ r
             ≡ nth-write (slot-of (now (self .entry)) .puts) (slot-of (now (self .entry)) .writes)
             ⌝ }
@@ -180,7 +180,7 @@ impl Slot {
     }
 
     // Marks the notes of a live transaction younger than the one with this stamp.
-    pub fn mark_younger(&mut self, stamp: u64)
+    pub(crate) fn mark_younger(&mut self, stamp: u64)
         ensures { λ _. ⌜ slot-of (now (self .exit))
             ≡ M.mark-younger stamp (slot-of (now (self .entry)))
             ⌝ }
@@ -190,7 +190,7 @@ impl Slot {
         }
     }
 
-    pub fn unmark(&mut self)
+    pub(crate) fn unmark(&mut self)
         ensures { λ _. ⌜ slot-of (now (self .exit))
             ≡ M.with-mark Mark.Unmarked (slot-of (now (self .entry)))
             ⌝ }

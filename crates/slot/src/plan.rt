@@ -16,7 +16,7 @@ use model::Step;
 
 impl Slot {
     // The first granule written here that the junior noted before its mark.
-    pub fn conflict_with(&self, junior: &Slot) -> Option<usize>
+    pub(crate) fn conflict_with(&self, junior: &Slot) -> Option<usize>
         ensures { λ r. ⌜ r ≡ M.conflict (slot-of (now (self .entry)) .writes)
             (M.marked-notes (now (junior .entry) .mark) (slot-of (now (junior .entry)) .notes))
             ⌝ }
@@ -109,7 +109,7 @@ fn unmark_all(slots: &mut [Slot])
 }
 
 // If the oldest live transaction waits, it enters its section.
-pub fn wake(slots: &mut [Slot])
+pub(crate) fn wake(slots: &mut [Slot])
     ensures { λ _. ⌜ slots-of (now (slots .exit)) ≡ M.woken (slots-of (now (slots .entry))) ⌝ }
 {
     let stamp = match oldest(slots, Which::Live) {

@@ -46,7 +46,7 @@ impl Slot {
         self.stamp != stamp && self.own(granule).is_some()
     }
 
-    pub fn passes(&self, which: Which) -> bool
+    pub(crate) fn passes(&self, which: Which) -> bool
         ensures { λ r. ⌜ r ≡ passes which (slot-of (now (self .entry))) ⌝ }
     {
         match which {
@@ -142,7 +142,7 @@ pub fn oldest(slots: &[Slot], which: Which) -> Option<&Slot>
 }
 
 // Changes the slot that has this stamp, and no other.
-pub fn change(slots: &mut [Slot], stamp: u64, change: Change)
+pub(crate) fn change(slots: &mut [Slot], stamp: u64, change: Change)
     ensures { λ _. ⌜ slots-of (now (slots .exit))
         ≡ M.adjust stamp (change-of change) (slots-of (now (slots .entry)))
         ⌝ }

@@ -16,13 +16,14 @@ returns-then-is-some g c =
     let i = c .in-Ok .i in
     let q = read-slot (c .args .self .now .slots) i (c .index-self-i .result) (search needs) in
     let o = sym (c .if-is-some .ensures tt ∙ (ap isSome (c .own .ensures)
-      ∙ ap (λ z. isSome (own (c .args .granule) (z .writes))) q)) in
+    ∙ ap (λ z. isSome (own (c .args .granule) (z .writes))) q)) in
     record {
-      within = c .in-Ok .ensures tt .within; arising = tt;
+      within = c .in-Ok .ensures tt .within;
+      arising = tt;
       ruled = written-before w (c .args .stamp) (c .args .attempt) (c .args .granule) i
-        (slot-at (c .args .self .now) i) (c .in-Ok .ensures tt .ruled) refl o;
+          (slot-at (c .args .self .now) i) (c .in-Ok .ensures tt .ruled) refl o;
       fits = fits-before w (c .args .stamp) (c .args .attempt) (c .args .granule) i
-        (slot-at (c .args .self .now) i) (c .in-Ok .ensures tt .ruled) refl o
+          (slot-at (c .args .self .now) i) (c .in-Ok .ensures tt .ruled) refl o;
     }
 
 pub returns-then-len-ge16 : need.returns-then-len-ge16
@@ -32,13 +33,15 @@ returns-then-len-ge16 g c =
     let i = c .in-Ok .i in
     let q = read-slot (c .args .self .now .slots) i (c .index-self-i .result) (search needs) in
     let o = sym (c .if-is-some .ensures tt ∙ (ap isSome (c .own .ensures)
-      ∙ ap (λ z. isSome (own (c .args .granule) (z .writes))) q)) in
+    ∙ ap (λ z. isSome (own (c .args .granule) (z .writes))) q)) in
     let n = c .len .ensures ∙ ap (λ z. length (z .writes)) q in
     record {
-      within = tt; arising = tt; fits = tt;
+      within = tt;
+      arising = tt;
+      fits = tt;
       ruled = full w (c .args .stamp) (c .args .attempt) (c .args .granule) i
-        (slot-at (c .args .self .now) i) (c .in-Ok .ensures tt .ruled) refl o
-        (omega (arith, n))
+          (slot-at (c .args .self .now) i) (c .in-Ok .ensures tt .ruled) refl o
+          (omega (arith, n));
     }
 
 pub returns-then-free-places-others : need.returns-then-free-places-others
@@ -48,13 +51,15 @@ returns-then-free-places-others g c =
     let i = c .in-Ok .i in
     let q = read-slot (c .args .self .now .slots) i (c .index-self-i .result) (search needs) in
     let o = sym (c .if-is-some .ensures tt ∙ (ap isSome (c .own .ensures)
-      ∙ ap (λ z. isSome (own (c .args .granule) (z .writes))) q)) in
+    ∙ ap (λ z. isSome (own (c .args .granule) (z .writes))) q)) in
     let n = c .len .ensures ∙ ap (λ z. length (z .writes)) q in
     record {
-      within = tt; arising = tt; fits = tt;
+      within = tt;
+      arising = tt;
+      fits = tt;
       ruled = crowded w (c .args .stamp) (c .args .attempt) (c .args .granule) i
-        (slot-at (c .args .self .now) i) (c .in-Ok .ensures tt .ruled) refl o
-        (omega (arith, n)) (search needs)
+          (slot-at (c .args .self .now) i) (c .in-Ok .ensures tt .ruled) refl o
+          (omega (arith, n)) (search needs);
     }
 
 pub returns : need.returns
@@ -64,14 +69,15 @@ returns g c =
     let i = c .in-Ok .i in
     let q = read-slot (c .args .self .now .slots) i (c .index-self-i .result) (search needs) in
     let o = sym (c .if-is-some .ensures tt ∙ (ap isSome (c .own .ensures)
-      ∙ ap (λ z. isSome (own (c .args .granule) (z .writes))) q)) in
+    ∙ ap (λ z. isSome (own (c .args .granule) (z .writes))) q)) in
     let n = c .len .ensures ∙ ap (λ z. length (z .writes)) q in
     record {
-      within = c .in-Ok .ensures tt .within; arising = tt;
+      within = c .in-Ok .ensures tt .within;
+      arising = tt;
       ruled = room w (c .args .stamp) (c .args .attempt) (c .args .granule) i
-        (slot-at (c .args .self .now) i) (c .in-Ok .ensures tt .ruled) refl o
-        (omega (arith, n)) (search needs);
+          (slot-at (c .args .self .now) i) (c .in-Ok .ensures tt .ruled) refl o
+          (omega (arith, n)) (search needs);
       fits = fits-now w (c .args .stamp) (c .args .attempt) (c .args .granule) i
-        (slot-at (c .args .self .now) i) (c .in-Ok .ensures tt .ruled) refl o
-        (omega (arith, n))
+          (slot-at (c .args .self .now) i) (c .in-Ok .ensures tt .ruled) refl o
+          (omega (arith, n));
     }

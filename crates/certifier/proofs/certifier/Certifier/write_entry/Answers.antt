@@ -17,5 +17,5 @@ returns g c =
       does = subst (λ (n : ℕ). Does (beside (c .args .self .now) a room)
           (call-write (c .args .stamp) (c .args .attempt) (c .args .granule) n k)
           (outcome (λ _. Y.Recorded) (c .write .result)) (beside (c .write .last .self) a room))
-        (c .encode .ensures) (c .write .ensures .does)
+          (c .encode .ensures) (c .write .ensures .does);
     }

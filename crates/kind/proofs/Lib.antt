@@ -1,0 +1,3 @@
+mod Made
+mod DutyLaw
+mod LicenceLaw

@@ -1,0 +1,5 @@
+pub mod Ranges
+pub mod Kinds
+pub mod Duties
+pub mod Licences
+pub mod Roster
