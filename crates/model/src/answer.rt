@@ -1,9 +1,13 @@
 // What the calls answer.
 use crate::fault::Fault;
+use crate::fault::FaultDebug;
+use crate::fault::FaultPartialEq;
 use crate::phase::Phase;
+use crate::phase::PhaseDebug;
+use crate::phase::PhasePartialEq;
 
 // One step of an advance.
-#[derive(Clone, Copy)]
+#[derive(Clone, Copy, PartialEq, Eq, Debug)]
 pub enum Step {
     Idle,
     Put { granule: usize },
@@ -13,13 +17,13 @@ pub enum Step {
     Done { stamp: u64 },
 }
 
-#[derive(Clone, Copy)]
+#[derive(Clone, Copy, PartialEq, Eq, Debug)]
 pub struct Opened {
     pub granules: usize,
     pub last: u64,
 }
 
-#[derive(Clone, Copy)]
+#[derive(Clone, Copy, PartialEq, Eq, Debug)]
 pub struct Status {
     pub phase: Phase,
     pub attempt: u64,
@@ -29,7 +33,7 @@ pub struct Status {
 }
 
 // The answer of an accepted call.
-#[derive(Clone, Copy)]
+#[derive(Clone, Copy, PartialEq, Eq, Debug)]
 pub enum Reply {
     Opened(Opened),
     Began { attempt: u64 },
@@ -46,7 +50,7 @@ pub enum Reply {
 }
 
 // Why a call is refused, in the order in which the causes are tried.
-#[derive(Clone, Copy)]
+#[derive(Clone, Copy, PartialEq, Eq, Debug)]
 pub enum Refusal {
     NotOpened,
     AlreadyOpened,

@@ -12,11 +12,13 @@ module _ {X : Type 0} (σ : Sense X) (c : Certifier) (s : X) (all : List (List �
 
   module _ (left : List (List ℕ)) (text : List ℕ) (c′ : Certifier) (s′ : X) where
     pub front-more : (l : List ℕ) (left′ : List (List ℕ)) (more : List ℕ) (c″ : Certifier) (s″ : X)
-      → left ≡ l ∷ left′ → Put-front σ c s all left text c′ s′
-      → Answered-line σ c′ s′ l more c″ s″ → Put-front σ c s all left′ (text ++ more) c″ s″
-    front-more l left′ more c″ s″ e p a =
-        (p .0 ++ (l ∷ []), (p .1 ∙ ap (λ ms. p .0 ++ ms) e) ∙ sym (append-assoc (p .0) (l ∷ []) left′),
-          one-more l (p .2) a)
+        → left ≡ l ∷ left′ → Put-front σ c s all left text c′ s′
+        → Answered-line σ c′ s′ l more c″ s″ → Put-front σ c s all left′ (text ++ more) c″ s″
+    front-more l left′ more c″ s″ e p a = (
+      p .0 ++ (l ∷ []),
+      (p .1 ∙ ap (λ ms. p .0 ++ ms) e) ∙ sym (append-assoc (p .0) (l ∷ []) left′),
+      one-more l (p .2) a,
+    )
 
     pub front-all : left ≡ [] → Put-front σ c s all left text c′ s′ → Replayed σ c s all text c′ s′
     front-all e p =

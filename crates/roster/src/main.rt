@@ -17,7 +17,9 @@ use table::TableStore;
 
 // Granules of each half, and versions of each granule.
 const GRANULES: usize = 8;
+
 const DEPTH: usize = 8;
+
 const WORDS: usize = 128;
 
 fn main(rt: LibcRuntime) -> io::Result<()> {

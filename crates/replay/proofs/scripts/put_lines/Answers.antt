@@ -9,27 +9,37 @@ use Rattle.replay.proofs.scripts.put_lines.Needs as need
 
 pub loop-cut-holds : need.loop-cut-holds
 loop-cut-holds g c =
-    let σ = sense (g .S·Archive .means) (g .S·Store .room) (g .S·Archive .origin) in
-    (c .pre, refl,
-      ([], front-none σ (c .args .certifier .now) (c .args .store .now)
-        (lines-of (c .args .script .now)), sym (append-nil (vec-items (c .args .out .now)))))
+    let σ = sense (g .S·Archive .means) (g .S·Store .room) (g .S·Archive .origin) in (
+      c .pre,
+      refl,
+      (
+        [],
+        front-none σ (c .args .certifier .now) (c .args .store .now)
+            (lines-of (c .args .script .now)),
+        sym (append-nil (vec-items (c .args .out .now))),
+      ),
+    )
 
 pub loop-cut-again : need.loop-cut-again
 loop-cut-again g c =
     let σ = sense (g .S·Archive .means) (g .S·Store .room) (g .S·Archive .origin) in
     let done = c .loop-cut .inv .2 in
     let e = c .in-Ok .ensures tt in
-    let p = e .put in
-    (e .sound, e .lent ∙ c .loop-cut .inv .1,
-      (done .0 ++ p .0,
+    let p = e .put in (
+      e .sound,
+      e .lent ∙ c .loop-cut .inv .1,
+      (
+        done .0 ++ p .0,
         front-more σ (c .args .certifier .now) (c .args .store .now)
-          (lines-of (c .args .script .now)) (lines-of (c .loop-cut .rest .now)) (done .0)
-          (c .loop-cut .certifier) (c .loop-cut .store) (c .in-Some .cut .line .now)
-          (lines-of (c .in-Some .cut .rest .now)) (p .0)
-          (c .put-line .last .certifier) (c .put-line .last .store)
-          (c .in-Some .ensures tt .lines) (done .1) (p .1),
+            (lines-of (c .args .script .now)) (lines-of (c .loop-cut .rest .now)) (done .0)
+            (c .loop-cut .certifier) (c .loop-cut .store) (c .in-Some .cut .line .now)
+            (lines-of (c .in-Some .cut .rest .now)) (p .0)
+            (c .put-line .last .certifier) (c .put-line .last .store)
+            (c .in-Some .ensures tt .lines) (done .1) (p .1),
         p .2 ∙ (ap (λ xs. xs ++ p .0) (done .2)
-          ∙ append-assoc (vec-items (c .args .out .now)) (done .0) (p .0))))
+            ∙ append-assoc (vec-items (c .args .out .now)) (done .0) (p .0)),
+      ),
+    )
 
 pub returns-in-Err : need.returns-in-Err
 returns-in-Err g c =
@@ -39,16 +49,23 @@ returns-in-Err g c =
     let p = e .put in
     let more = p .2 in
     record {
-      sound = e .sound; lent = e .lent ∙ c .loop-cut .inv .1;
-      put = (lines-of (c .in-Some .cut .rest .now), done .0 ++ p .0,
+      sound = e .sound;
+      lent = e .lent ∙ c .loop-cut .inv .1;
+      put = (
+        lines-of (c .in-Some .cut .rest .now),
+        done .0 ++ p .0,
         front-more σ (c .args .certifier .now) (c .args .store .now)
-          (lines-of (c .args .script .now)) (lines-of (c .loop-cut .rest .now)) (done .0)
-          (c .loop-cut .certifier) (c .loop-cut .store) (c .in-Some .cut .line .now)
-          (lines-of (c .in-Some .cut .rest .now)) (p .0)
-          (c .put-line .last .certifier) (c .put-line .last .store)
-          (c .in-Some .ensures tt .lines) (done .1) (p .1),
-        (done .0 ++ more .0, more .1 ∙ (ap (λ xs. xs ++ more .0) (done .2)
-          ∙ append-assoc (vec-items (c .args .out .now)) (done .0) (more .0))))
+            (lines-of (c .args .script .now)) (lines-of (c .loop-cut .rest .now)) (done .0)
+            (c .loop-cut .certifier) (c .loop-cut .store) (c .in-Some .cut .line .now)
+            (lines-of (c .in-Some .cut .rest .now)) (p .0)
+            (c .put-line .last .certifier) (c .put-line .last .store)
+            (c .in-Some .ensures tt .lines) (done .1) (p .1),
+        (
+          done .0 ++ more .0,
+          more .1 ∙ (ap (λ xs. xs ++ more .0) (done .2)
+              ∙ append-assoc (vec-items (c .args .out .now)) (done .0) (more .0)),
+        ),
+      );
     }
 
 pub returns : need.returns
@@ -57,10 +74,13 @@ returns g c =
     let inv = c .loop-cut .inv in
     let done = inv .2 in
     record {
-      sound = inv .0; lent = inv .1;
-      put = (done .0,
+      sound = inv .0;
+      lent = inv .1;
+      put = (
+        done .0,
         front-all σ (c .args .certifier .now) (c .args .store .now)
-          (lines-of (c .args .script .now)) (lines-of (c .loop-cut .rest .now)) (done .0)
-          (c .loop-cut .certifier) (c .loop-cut .store) (c .in-rest .ensures tt .lines) (done .1),
-        done .2)
+            (lines-of (c .args .script .now)) (lines-of (c .loop-cut .rest .now)) (done .0)
+            (c .loop-cut .certifier) (c .loop-cut .store) (c .in-rest .ensures tt .lines) (done .1),
+        done .2,
+      );
     }

@@ -12,10 +12,10 @@ Inv-loop-cut g l =
     g .S·Archive .sound (l .store)
     × (g .S·Store .lent (l .store) ≡ g .S·Store .lent (l .entry .store))
     × ((text : List ℕ)
-      × Put-front (sense (g .S·Archive .means) (g .S·Store .room) (g .S·Archive .origin))
-        (l .entry .certifier) (l .entry .store) (lines-of (l .entry .rest)) (lines-of (l .rest)) text
-        (l .certifier) (l .store)
-      × (vec-items (l .out) ≡ vec-items (l .entry .out) ++ text))
+    × Put-front (sense (g .S·Archive .means) (g .S·Store .room) (g .S·Archive .origin))
+    (l .entry .certifier) (l .entry .store) (lines-of (l .entry .rest)) (lines-of (l .rest)) text
+    (l .certifier) (l .store)
+    × (vec-items (l .out) ≡ vec-items (l .entry .out) ++ text))
 
 abbrev pub μ-loop-cut : given.MeasureT-loop-cut
 μ-loop-cut g l = length (l .rest)
