@@ -1,5 +1,4 @@
 // What follows the letter of an answered line.
-ghost use mathlib.Core.Path.{_≡_};
 ghost use Rattle.std.specs.Of.Vec.{vec-items};
 ghost use Rattle.script.specs.Events.{said};
 ghost use Rattle.script.specs.Writing.{named};
@@ -55,7 +54,10 @@ fn push_step(out: &mut Vec<u8>, step: Step) -> Result<(), AllocError>
         Step::Idle => push_word(out, b" ok idle", &[]),
         Step::Put { granule } => push_word(out, b" ok put", &[granule as u64]),
         Step::Mark => push_word(out, b" ok mark", &[]),
-        Step::Again { stamp, granule } => { push_word(out, b" ok again", &[stamp, granule as u64]) }
+        Step::Again { stamp, granule } => {
+            let granule = granule as u64;
+            push_word(out, b" ok again", &[stamp, granule])
+        }
         Step::Pass { stamp } => push_word(out, b" ok pass", &[stamp]),
         Step::Done { stamp } => push_word(out, b" ok done", &[stamp]),
     }
@@ -82,7 +84,7 @@ pub fn push_reply(out: &mut Vec<u8>, event: &Event<'_>, reply: Reply) -> Result<
         ⌝ }
 {
     match reply {
-        Reply::Opened(opened) => { push_word(out, b" ok", &[opened.granules as u64, opened.last]) }
+        Reply::Opened(opened) => push_word(out, b" ok", &[opened.granules as u64, opened.last]),
         Reply::Began { attempt } => {
             push_word(out, b" ok", &[attempt])?;
             push_name(out, event)

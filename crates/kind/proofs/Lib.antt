@@ -1,3 +1,3 @@
-mod Made
-mod DutyLaw
-mod LicenceLaw
+pub mod Made
+pub mod DutyLaw
+pub mod LicenceLaw

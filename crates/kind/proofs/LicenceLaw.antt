@@ -1,5 +1,5 @@
 -- The code law of licences.
-use Prim.Native.Nat.{ℕ, _+_, _*_, _/_, _%_, _^_, _≤_, _<_}
+use Prim.Native.Nat.{ℕ, _+_, _*_, _/_, _%_, _^_, _≤_}
 use mathlib.Core.Path.{_≡_, refl, sym, ap, _∙_}
 use mathlib.Core.Bool.{true, false, cond}
 use mathlib.Core.Logic.{⊎-elim}
@@ -11,7 +11,6 @@ use Rattle.std.proofs.shelf.Ways.{tells}
 use Rattle.kind.specs.Licences.{licence-code, held-of, suspended-of, expired-of, licence-at}
 use Rattle.kind.specs.Licences.{licence-of}
 use Rattle.kind.specs.declared.licence.HeldLicence.{HeldLicence}
-use Rattle.kind.specs.declared.licence.Suspension.{Suspension}
 use Rattle.kind.specs.declared.licence.Licence.{Licence}
 use Rattle.kind.specs.declared.licence.Licence.the-variants.{Held, Suspended, Expired}
 use Rattle.kind.proofs.Made.{made-true, made-from, mapped-from}

@@ -1,5 +1,4 @@
 // Bare codes as an entry kind: each code is its own entry.
-ghost use mathlib.Core.Path.{_≡_};
 ghost use Prim.Native.Nat.{_^_, _<_};
 ghost use Rattle.std.specs.declared.option.Option.the-variants.{Some};
 use crate::entry_kind::EntryKind;

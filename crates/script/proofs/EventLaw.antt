@@ -22,11 +22,8 @@ use Rattle.script.specs.Events.{begin-event}
 use Rattle.script.specs.Reading.{and-then, words-left, gathered, plain-from, begin-with}
 use Rattle.script.specs.Reading.{begin-of, event-from, kind-in, event-in, event-of}
 use Rattle.script.specs.Writing.{spaced, numbers-of, named, good-name, written, Formed}
-use Rattle.script.proofs.NumberLaw.{number-gives}
+use Rattle.script.proofs.NumberLaw.{never, number-gives}
 use Rattle.script.proofs.PieceLaw.{first-on, others-on, first-end, others-end, led-pieces}
-
-never : {X T : Type 0} (x : T) → _≡_ {A = Option T} None (Some x) → X
-never x q = let z : _≡_ {A = ℕ} 0 1 = cc in absurd (omega arith)
 
 -- what follows a first word
 after : Option (List ℕ) → List ℕ
@@ -48,7 +45,7 @@ unfolding after
 led-left None = refl
 led-left (Some s) = led-pieces 32 s
 
-abbrev Small : List ℕ → Type 0
+abbrev pub Small : List ℕ → Type 0
 Small ns = All (λ n. n < 2 ^ 64) ns
 
 -- the words ws are the numbers more, which come after ns

@@ -1,9 +1,9 @@
 -- The line of an event is read as that event, and no other line is.
 use Prim.Native.Nat.{ℕ, _+_, _^_, _<_, _≤_}
 use mathlib.Core.Path.{_≡_, refl, sym, ap, _∙_}
-use mathlib.Core.Bool.{true, false, cond, _&&_}
+use mathlib.Core.Bool.{true, false}
 use mathlib.Core.List.{List, [], _∷_, _++_, map, append-assoc, append-nil}
-use lib.Dec.{eqb, leb, ltb}
+use lib.Dec.{eqb, ltb}
 use lib.ListN.{length, length-append}
 use native.Mathlib.Omega.{arith}
 use Rattle.std.specs.Written.{decimal}
@@ -23,11 +23,11 @@ use Rattle.script.specs.Events.{commit-event, roll-back-event, advance-event, 
 use Rattle.script.specs.Events.{notice-event}
 use Rattle.script.specs.Reading.{words-left, gathered, plain-from, event-from, event-in}
 use Rattle.script.specs.Reading.{and-then, begin-of, event-of}
-use Rattle.script.specs.Writing.{spaced, numbers-of, written, Formed, Format}
+use Rattle.script.specs.Writing.{spaced, written, Formed, Format}
 use Rattle.script.proofs.NumberLaw.{own, number-back}
 use Rattle.script.proofs.PieceLaw.{first-on, others-on, first-end, others-end}
 use Rattle.script.proofs.WordLaw.{words-cut}
-use Rattle.script.proofs.EventLaw.{event-gives}
+use Rattle.script.proofs.EventLaw.{Small, event-gives}
 
 -- bytes with no space among them
 abbrev Free : List ℕ → Type 0
@@ -59,9 +59,6 @@ first-last (c ∷ cs) f = first-on 32 c cs (f .0) ∙ ap (λ w. c ∷ w) (first-
 others-last : (w : List ℕ) → Free w → others 32 w ≡ None
 others-last [] f = refl
 others-last (c ∷ cs) f = others-on 32 c cs (f .0) ∙ others-last cs (f .1)
-
-abbrev Small : List ℕ → Type 0
-Small ns = All (λ n. n < 2 ^ 64) ns
 
 words-spaced : (n : ℕ) (ns : List ℕ) → n < 2 ^ 64 → Small ns
     → words-left (Some (decimal n ++ spaced ns)) ≡ decimal n ∷ map decimal ns
@@ -132,7 +129,7 @@ in-back (status-event t) f =
 in-back (notice-event n) f =
     plain-back K.Notice 110 (n ∷ []) refl refl (λ _. refl) (omega arith) (f .small)
 
-event-back : (e : Said) → Formed e → event-of (written e) ≡ Some e
+pub event-back : (e : Said) → Formed e → event-of (written e) ≡ Some e
 event-back e f = rw (le-leb (length (written e)) 64 (f .short)) (in-back e f)
 
 pub format-law : (s : List ℕ) (o : Option Said) → o ≡ event-of s → Format s o

@@ -1,7 +1,7 @@
-mod Steps
-mod NumberLaw
-mod PieceLaw
-mod LineLaw
-mod WordLaw
-mod EventLaw
-mod FormatLaw
+pub mod Steps
+pub mod NumberLaw
+pub mod PieceLaw
+pub mod LineLaw
+pub mod WordLaw
+pub mod EventLaw
+pub mod FormatLaw

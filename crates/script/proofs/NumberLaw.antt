@@ -1,7 +1,7 @@
 -- The number that is read is the one that is written so.
 use Prim.Native.Nat.{ℕ, _+_, _-_, _*_, _^_, _<_, _≤_}
 use mathlib.Core.Path.{_≡_, refl, sym, ap, _∙_}
-use mathlib.Core.Bool.{Bool, true, false, cond, _&&_}
+use mathlib.Core.Bool.{true, false}
 use mathlib.Core.List.{List, [], _∷_}
 use mathlib.Core.Logic.{⊎-elim}
 use borrow.Author.Needs.{needs}
@@ -35,8 +35,8 @@ record Read (s : List ℕ) (n m : ℕ) : Type 0 where
   value : value-on n s ≡ m
   bound : m < 2 ^ 64
 
-never : {X : Type 0} (n : ℕ) → _≡_ {A = Option ℕ} None (Some n) → X
-never n q = let z : _≡_ {A = ℕ} 0 1 = cc in absurd (omega arith)
+pub never : {X T : Type 0} (x : T) → _≡_ {A = Option T} None (Some x) → X
+never x q = let z : _≡_ {A = ℕ} 0 1 = cc in absurd (omega arith)
 
 one-more : (c : ℕ) (cs : List ℕ) (n m : ℕ) → takes n c ≡ true
     → (n * 10 + (c - 48) < 2 ^ 64 → Read cs (n * 10 + (c - 48)) m) → Read (c ∷ cs) n m

@@ -9,7 +9,7 @@ use Rattle.std.specs.declared.option.Option.{Option}
 use Rattle.std.specs.declared.option.Option.the-variants.{Some, None}
 use Rattle.std.proofs.shelf.Tests.{lt-ltb, le-ltb}
 use Rattle.script.specs.Numbers.{number-of}
-use Rattle.script.specs.Pieces.{first, others, pieces}
+use Rattle.script.specs.Pieces.{first, others}
 use Rattle.script.specs.Reading.{words-left, gathered}
 use Rattle.script.proofs.PieceLaw.{pieces-cut}
 

@@ -10,6 +10,7 @@ pub use events::Event;
 pub use events::EventKind;
 pub use letters::kind_of;
 pub use lines::Cut;
+pub use lines::MAX_SCRIPT;
 pub use lines::fits;
 pub use lines::next_line;
 pub use numbers::number;

@@ -5,7 +5,7 @@ ghost use mathlib.Core.List.{[], _∷_};
 ghost use Prim.Native.Nat.{_<_};
 ghost use lib.Dec.{leb};
 ghost use lib.ListN.{length};
-ghost use Rattle.std.specs.Options.{Cases as BySome};
+ghost use Rattle.std.specs.Options.{Cases as BySome, mapped, valueOr};
 ghost use Rattle.script.specs.Lines.{lines-of, first-line, after-line, Joined, max-script};
 use crate::pieces::cut_at;
 
@@ -38,15 +38,18 @@ pub fn next_line(script: &[u8]) -> Option<Cut<'_>>
         return None;
     }
     let piece = cut_at(script, b'\n');
-    match piece.rest {
-        Some(rest) => Some(Cut {
-            line: piece.bytes,
-            rest,
-        }),
-        None => Some(Cut {
-            line: piece.bytes,
-            rest: &[],
-        }),
+    Some(Cut {
+        line: piece.bytes,
+        rest: or_empty(piece.rest),
+    })
+}
+
+fn or_empty(rest: Option<&[u8]>) -> &[u8]
+    ensures { λ r. ⌜ now r ≡ valueOr (mapped (λ x. now x) (rest .entry)) [] ⌝ }
+{
+    match rest {
+        Some(rest) => rest,
+        None => &[],
     }
 }
 

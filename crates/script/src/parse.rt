@@ -1,9 +1,8 @@
 // The event that a line is.
 ghost use mathlib.Core.Path.{_≡_};
 ghost use mathlib.Core.List.{[]};
-ghost use Prim.Native.Nat.{ℕ};
 ghost use Rattle.std.specs.Options.{mapped};
-ghost use Rattle.script.specs.Events.{Said, said, with-numbers, alphanumeric, name-ok};
+ghost use Rattle.script.specs.Events.{said, with-numbers, alphanumeric, name-ok};
 ghost use Rattle.script.specs.Reading.{begin-of, plain-from, event-in, event-of};
 ghost use Rattle.script.specs.Writing.{Format};
 use crate::events::Event;
@@ -95,6 +94,7 @@ fn plain<'a>(kind: EventKind, s: Option<&'a [u8]>) -> Option<Event<'a>>
     with_numbers(kind, &numbers[0..count])
 }
 
+// The event of a kind with these numbers, if it has as many.
 fn with_numbers<'a>(kind: EventKind, numbers: &[u64]) -> Option<Event<'a>>
     ensures { λ r. ⌜ mapped said r ≡ with-numbers kind (now (numbers .entry)) ⌝ }
 {
@@ -104,37 +104,9 @@ fn with_numbers<'a>(kind: EventKind, numbers: &[u64]) -> Option<Event<'a>>
             _ => None,
         },
         EventKind::Begin => None,
-        EventKind::Read => match *numbers {
-            [stamp, attempt, granule] => {
-                Some(Event::Read {
-                    stamp,
-                    attempt,
-                    granule: granule as usize,
-                })
-            }
-            _ => None,
-        },
-        EventKind::Write => match *numbers {
-            [stamp, attempt, granule, code] => {
-                Some(Event::Write {
-                    stamp,
-                    attempt,
-                    granule: granule as usize,
-                    code,
-                })
-            }
-            _ => None,
-        },
-        EventKind::Erase => match *numbers {
-            [stamp, attempt, granule] => {
-                Some(Event::Erase {
-                    stamp,
-                    attempt,
-                    granule: granule as usize,
-                })
-            }
-            _ => None,
-        },
+        EventKind::Read => read(numbers),
+        EventKind::Write => write(numbers),
+        EventKind::Erase => erase(numbers),
         EventKind::Commit => match *numbers {
             [stamp, attempt] => Some(Event::Commit { stamp, attempt }),
             _ => None,
@@ -155,5 +127,54 @@ fn with_numbers<'a>(kind: EventKind, numbers: &[u64]) -> Option<Event<'a>>
             [number] => Some(Event::Notice { number }),
             _ => None,
         },
+    }
+}
+
+fn read<'a>(numbers: &[u64]) -> Option<Event<'a>>
+    ensures { λ r. ⌜ mapped said r ≡ with-numbers EventKind.Read (now (numbers .entry)) ⌝ }
+{
+    match *numbers {
+        [stamp, attempt, granule] => {
+            let granule = granule as usize;
+            Some(Event::Read {
+                stamp,
+                attempt,
+                granule,
+            })
+        }
+        _ => None,
+    }
+}
+
+fn write<'a>(numbers: &[u64]) -> Option<Event<'a>>
+    ensures { λ r. ⌜ mapped said r ≡ with-numbers EventKind.Write (now (numbers .entry)) ⌝ }
+{
+    match *numbers {
+        [stamp, attempt, granule, code] => {
+            let granule = granule as usize;
+            Some(Event::Write {
+                stamp,
+                attempt,
+                granule,
+                code,
+            })
+        }
+        _ => None,
+    }
+}
+
+fn erase<'a>(numbers: &[u64]) -> Option<Event<'a>>
+    ensures { λ r. ⌜ mapped said r ≡ with-numbers EventKind.Erase (now (numbers .entry)) ⌝ }
+{
+    match *numbers {
+        [stamp, attempt, granule] => {
+            let granule = granule as usize;
+            Some(Event::Erase {
+                stamp,
+                attempt,
+                granule,
+            })
+        }
+        _ => None,
     }
 }

@@ -1,7 +1,8 @@
 use borrow.Author.Needs.{needs}
-use mathlib.Core.Path.{_≡_, refl, ap}
+use mathlib.Core.Path.{_≡_, ap}
 use mathlib.Core.List.{[]}
-use Rattle.std.specs.declared.option.Option.the-variants.{Some, None}
+use denote.Ref.{now}
+use Rattle.std.specs.Options.{mapped}
 use Rattle.std.proofs.shelf.Lists.{nil-from-length}
 use Rattle.script.specs.Lines.{lines-of}
 use Rattle.script.proofs.LineLaw.{joined, next}
@@ -17,24 +18,12 @@ returns-then-script-eq0 c =
       joined = joined (c .args .script .now);
     }
 
-pub returns-in-Some : need.returns-in-Some
-returns-in-Some c =
+pub returns : need.returns
+returns c =
     let n =
-    next (c .args .script .now) (c .cut-at-piece .result .bytes .now) (c .in-Some .rest .now)
-    (Some (c .in-Some .rest .now)) (search needs) (c .cut-at-piece .ensures .bytes)
-    (search needs) refl in
-    record {
-      parts = (c .cut-at-piece .ensures .bytes, n .after);
-      shorter = n .shorter;
-      lines = n .lines;
-      joined = joined (c .args .script .now);
-    }
-
-pub returns-in-None : need.returns-in-None
-returns-in-None c =
-    let n =
-    next (c .args .script .now) (c .cut-at-piece .result .bytes .now) [] None (search needs)
-    (c .cut-at-piece .ensures .bytes) (search needs) refl in
+    next (c .args .script .now) (c .cut-at-piece .result .bytes .now) (c .or-empty .result .now)
+    (mapped (λ x. now x) (c .cut-at-piece .result .rest)) (search needs)
+    (c .cut-at-piece .ensures .bytes) (c .cut-at-piece .ensures .rest) (c .or-empty .ensures) in
     record {
       parts = (c .cut-at-piece .ensures .bytes, n .after);
       shorter = n .shorter;

@@ -51,3 +51,10 @@ loop-left-again c =
     (c .in-Continue-value .value) (omega arith) (c .cut-at-word .ensures .bytes)
     (c .cut-at-word .ensures .rest) v in
     search needs
+
+pub returns : need.returns
+returns c =
+    let ns = take (c .loop-left .count) (c .loop-left .numbers) in
+    let h : gathered [] (words-left (mapped (λ x. now x) (c .args .s))) ≡ Some ns = search needs in
+    let e = ap (λ o. and-then o (with-numbers (c .args .kind))) h in
+    search needs

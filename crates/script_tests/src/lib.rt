@@ -1,0 +1,3 @@
+// Tests of scripts and of answer texts.
+#[cfg(test)]
+mod tests;
