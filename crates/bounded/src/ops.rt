@@ -2,6 +2,7 @@
 ghost use mathlib.Core.Path.{_≡_};
 ghost use mathlib.Core.Bool.{cond};
 ghost use mathlib.Core.List.{_++_, _∷_, []};
+ghost use Prim.Native.Nat.{_<_};
 ghost use lib.Dec.{ltb};
 ghost use lib.ListN.{length, set};
 ghost use Rattle.bounded.specs.Listed.{listed};
@@ -19,7 +20,8 @@ impl<T: Copy, const N: usize> Bounded<T, N> {
     }
 
     pub fn len(&self) -> usize
-        ensures { λ r. ⌜ r ≡ length (listed (now (self .entry))) ⌝ }
+        ensures used { λ r. ⌜ r ≡ now (self .entry) .used ⌝ }
+        ensures len { λ r. ⌜ r ≡ length (listed (now (self .entry))) ⌝ }
     {
         self.as_slice().len()
     }
@@ -37,12 +39,29 @@ impl<T: Copy, const N: usize> Bounded<T, N> {
         self.used = 0;
     }
 
+    // Writes item i of those in use.
+    fn put(&mut self, i: usize, item: T)
+        requires { ⌜ i < now self .used ⌝ }
+        ensures { λ _. ⌜ listed (now (self .exit)) ≡ set (listed (now (self .entry))) i item ⌝ }
+    {
+        self.items[i] = item;
+    }
+
+    // Writes one item more.
+    fn add(&mut self, item: T)
+        requires { ⌜ now self .used < N ⌝ }
+        ensures { λ _. ⌜ listed (now (self .exit)) ≡ listed (now (self .entry)) ++ (item ∷ []) ⌝ }
+    {
+        self.items[self.used] = item;
+        self.used += 1;
+    }
+
     // Replaces item i, where there is one.
     pub fn set(&mut self, i: usize, item: T)
         ensures { λ _. ⌜ listed (now (self .exit)) ≡ set (listed (now (self .entry))) i item ⌝ }
     {
         if i < self.used {
-            self.items[i] = item;
+            self.put(i, item);
         }
     }
 
@@ -53,11 +72,10 @@ impl<T: Copy, const N: usize> Bounded<T, N> {
             ≡ cond r (listed (now (self .entry)) ++ (item ∷ [])) (listed (now (self .entry)))
             ⌝ }
     {
-        if self.used >= N {
+        if self.len() >= N {
             return false;
         }
-        self.items[self.used] = item;
-        self.used += 1;
+        self.add(item);
         true
     }
 }

@@ -3,24 +3,23 @@ use Prim.Native.Nat.{ℕ, _^_, _<_, _≤_}
 use mathlib.Core.Path.{_≡_, refl, sym, ap, _∙_}
 use mathlib.Core.Bool.{Bool, true, false, cond}
 use mathlib.Core.List.{List, [], _∷_, _++_}
-use lib.ListN.{getD, set}
+use lib.ListN.{set}
 use native.Mathlib.Omega.{arith}
 use Rattle.std.specs.declared.option.Option.{Option}
 use Rattle.std.specs.declared.option.Option.the-variants.{Some, None}
 use Rattle.std.proofs.shelf.Ways.{tells}
 use Rattle.model.specs.declared.phase.Phase.{Phase}
 use Rattle.model.specs.declared.phase.Phase.the-variants as P
-use Rattle.model.specs.declared.answer.Status.{Status}
 use Rattle.model.specs.declared.answer.Reply.{Reply}
 use Rattle.model.specs.declared.answer.Reply.the-variants as Y
 use Rattle.model.specs.Numbers.{phase-number}
 use Rattle.model.specs.Slots as M
-use Rattle.model.specs.Worlds.{World, world, with-slots, older}
-use Rattle.model.specs.Refusals.{Refused, refusal, of-phase, running-or-waiting}
+use Rattle.model.specs.Worlds.{World, world}
+use Rattle.model.specs.Refusals.{Refused, refusal}
 use Rattle.model.specs.Calls.{Call, Answer, Does, accepted, refused, rules, spared, after, reply}
-use Rattle.model.specs.Calls.{call-begin, call-roll-back, call-status, phase-of, status-of}
+use Rattle.model.specs.Calls.{call-begin, phase-of}
 use Rattle.slot.specs.Changes.{first-from}
-use Rattle.slot.proofs.Places.{vacant, all-held, stands, not-held}
+use Rattle.slot.proofs.Places.{vacant, all-held}
 
 pub refused-by : (w : World) (c : Call) (r : Refused) → refusal (rules c w) ≡ Some r
     → spared c (r .0) w ≡ w → Does w c (refused (r .0) (r .1)) w
@@ -48,37 +47,6 @@ module _ (w : World) (t : ℕ) (o : w .opened ≡ true) (l : 1 ≤ t) (h : t < 2
       let k = v .places (M.new-slot t) in
       let r : refusal (rules (call-begin t) w) ≡ None = grind (arith, tells) in
       accepted-by w w′ (call-begin t) (Y.Began 1) r (rw k e) refl
-
--- roll back
-
-pub rolled-back : (w : World) (t a : ℕ) (xs : List M.Slot) → w .opened ≡ true
-    → refusal (of-phase (w .slots) t a running-or-waiting) ≡ None
-    → xs ≡ M.woken (M.adjust t (λ x. M.free-slot) (w .slots))
-    → Does w (call-roll-back t a) (accepted Y.RolledBack) (with-slots xs w)
-rolled-back w t a xs o r e =
-    accepted-by w (with-slots xs w) (call-roll-back t a) Y.RolledBack (rw (o, r))
-    (ap (λ ys. with-slots ys w) e) refl
-
-pub roll-back-refused : (w : World) (t a : ℕ) (r : Refused) → w .opened ≡ true
-    → refusal (of-phase (w .slots) t a running-or-waiting) ≡ Some r
-    → Does w (call-roll-back t a) (refused (r .0) (r .1)) w
-roll-back-refused w t a r o e = refused-by w (call-roll-back t a) r (rw (o, e)) refl
-
--- status
-
-module _ (w : World) (t : ℕ) (o : w .opened ≡ true) where
-  pub status-none : None ≡ first-from (M.holds t) 0 (w .slots)
-      → Does w (call-status t) (refused 7 []) w
-  status-none e =
-      let h = not-held t (w .slots) e in
-      refused-by w (call-status t) (7, []) (rw (o, h)) refl
-
-  pub status-told : (i : ℕ) (x : M.Slot) (y : Status) → Some i ≡ first-from (M.holds t) 0 (w .slots)
-      → x ≡ getD (w .slots) i M.free-slot → y ≡ status-of x (older t (w .slots))
-      → Does w (call-status t) (accepted (Y.Status y)) w
-  status-told i x y e q s =
-      let h = stands t (w .slots) i e .held ∙ ap Some (sym q) in
-      accepted-by w w (call-status t) (Y.Status y) (rw (o, h)) refl (ap Y.Status (rw h s))
 
 -- a phase is told by its number
 

@@ -4,6 +4,8 @@ use mathlib.Core.Path.{_≡_, refl, sym, ap, _∙_}
 use mathlib.Core.Bool.{Bool, true, false, cond}
 use mathlib.Core.List.{List, [], _∷_, _++_}
 use lib.Dec.{ltb}
+use native.Mathlib.Omega.{arith}
+use Rattle.std.specs.Options.{mapped}
 use Rattle.std.specs.declared.option.Option.{Option}
 use Rattle.std.specs.declared.option.Option.the-variants.{Some, None}
 use Rattle.std.proofs.shelf.Tests.{lt-ltb, le-ltb}
@@ -34,10 +36,21 @@ module _ (w : World) (t a g : ℕ) where
       last : refusal (on-granule w t a g) ≡ refusal (section-writes (w .slots) t g ∷ [])
       last = tail ∙ past (of-phase (w .slots) t a running) (section-writes (w .slots) t g ∷ []) e
 
-      pub blocked : (x : M.Slot) → Some x ≡ M.oldest (M.other-section t g) (w .slots)
-          → refusal (on-granule w t a g) ≡ Some (10, x .stamp ∷ [])
-      blocked x q = last ∙ rw (← q)
+      pub blocked : (u : ℕ)
+          → Some u ≡ mapped (λ x. x .stamp) (M.oldest (M.other-section t g) (w .slots))
+          → refusal (on-granule w t a g) ≡ Some (10, u ∷ [])
+      blocked u q = go (M.oldest (M.other-section t g) (w .slots)) refl q
+        where
+          go : (o : Option M.Slot) → M.oldest (M.other-section t g) (w .slots) ≡ o
+              → Some u ≡ mapped (λ x. x .stamp) o → refusal (on-granule w t a g) ≡ Some (10, u ∷ [])
+          go None r e = absurd (grind arith)
+          go (Some x) r e = let z : x .stamp ≡ u = cc in last ∙ rw (r, z)
 
-      pub granted : None ≡ M.oldest (M.other-section t g) (w .slots)
+      pub granted : None ≡ mapped (λ x. x .stamp) (M.oldest (M.other-section t g) (w .slots))
           → refusal (on-granule w t a g) ≡ None
-      granted q = last ∙ rw (← q)
+      granted q = go (M.oldest (M.other-section t g) (w .slots)) refl q
+        where
+          go : (o : Option M.Slot) → M.oldest (M.other-section t g) (w .slots) ≡ o
+              → None ≡ mapped (λ x. x .stamp) o → refusal (on-granule w t a g) ≡ None
+          go None r e = last ∙ rw r
+          go (Some x) r e = absurd (grind arith)

@@ -13,7 +13,7 @@ use Rattle.model.specs.declared.phase.Phase.{Phase}
 use Rattle.model.specs.declared.phase.Phase.the-variants as P
 use Rattle.model.specs.Numbers.{phase-number}
 use Rattle.model.specs.Slots as M
-use Rattle.model.specs.Refusals.{refusal, of-attempt, of-phase, wrong-phase}
+use Rattle.model.specs.Refusals.{refusal, no-transaction, of-attempt, of-phase, wrong-phase}
 use Rattle.model.specs.Refusals.{running, running-or-waiting}
 use Rattle.slot.specs.declared.slot.Slot.{Slot}
 use Rattle.slot.specs.Means.{slot-of, slots-of, Stands}
@@ -26,21 +26,25 @@ pub read-slot : (ys : List Slot) (i : ℕ) (y : Slot) → i < length ys
     → slot-of (getD ys i y) ≡ getD (slots-of ys) i M.free-slot
 read-slot ys i y h = sym (getD-map slot-of ys i y M.free-slot h)
 
-module _ (xs : List M.Slot) (t a : ℕ) where
-  pub absent : None ≡ first-from (M.holds t) 0 xs → refusal (of-attempt xs t a) ≡ Some (7, [])
-  absent e = let h = not-held t xs e in rw h
+pub absent : (xs : List M.Slot) (t : ℕ) → None ≡ first-from (M.holds t) 0 xs
+    → refusal (no-transaction xs t ∷ []) ≡ Some (7, [])
+absent xs t e = let h = not-held t xs e in rw h
 
-  module _ (i : ℕ) (x : M.Slot) (e : Some i ≡ first-from (M.holds t) 0 xs)
-      (q : x ≡ getD xs i M.free-slot) where
+pub found : (xs : List M.Slot) (t i : ℕ) → Some i ≡ first-from (M.holds t) 0 xs
+    → (refusal (no-transaction xs t ∷ []) ≡ None) × Stands t xs i
+found xs t i e = let s = stands t xs i e in let h = s .held in (rw h, s)
+
+module _ (xs : List M.Slot) (t a : ℕ) where
+  module _ (i : ℕ) (x : M.Slot) (s : Stands t xs i) (q : x ≡ getD xs i M.free-slot) where
     held : M.held t xs ≡ Some x
-    held = stands t xs i e .held ∙ ap Some (sym q)
+    held = s .held ∙ ap Some (sym q)
 
     pub outdated : (x .attempt ≡ a → ⊥)
         → refusal (of-attempt xs t a) ≡ Some (8, x .attempt ∷ [])
     outdated n = rw (held, ne-eqb (x .attempt) a n)
 
     pub present : x .attempt ≡ a → (refusal (of-attempt xs t a) ≡ None) × Stands t xs i
-    present n = (rw (held, eq-eqb (x .attempt) a n), stands t xs i e)
+    present n = (rw (held, eq-eqb (x .attempt) a n), s)
 
   -- the phase of a transaction that is present
   module _ (i : ℕ) (x : M.Slot) (needed : ℕ → Bool)

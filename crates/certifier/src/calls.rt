@@ -13,11 +13,9 @@ use model::Status;
 use model::Step;
 use slot::Change;
 use slot::Slot;
-use slot::Which;
 use slot::apply;
-use slot::count;
-use slot::find;
 use slot::free_place;
+use slot::older_live;
 use slot::plan_of;
 use slot::release;
 use slot::step_of;
@@ -111,7 +109,7 @@ impl Certifier {
             Ok(i) => i,
             Err(refusal) => return Err(refusal),
         };
-        if count(&self.slots[..], Which::OlderLive { stamp }) == 0 {
+        if older_live(&self.slots[..], stamp) == 0 {
             self.change_at(i, Change::EnterSection);
             Ok(Phase::Section)
         } else {
@@ -139,14 +137,9 @@ impl Certifier {
         if !self.opened {
             return Err(Refusal::NotOpened);
         }
-        let i = match self.present(stamp, attempt) {
-            Ok(i) => i,
+        match self.not_in_section(stamp, attempt) {
+            Ok(_) => {}
             Err(refusal) => return Err(refusal),
-        };
-        let slot = &self.slots[i];
-        match slot.phase {
-            Phase::Running | Phase::Waiting => {}
-            phase => return Err(Refusal::WrongPhase { phase }),
         }
         release(&mut self.slots[..], stamp);
         Ok(())
@@ -166,18 +159,12 @@ impl Certifier {
         if !self.opened {
             return Err(Refusal::NotOpened);
         }
-        let Some(i) = find(&self.slots[..], stamp) else {
-            return Err(Refusal::NoSuchTransaction);
+        let i = match self.held(stamp) {
+            Ok(i) => i,
+            Err(refusal) => return Err(refusal),
         };
-        let slot = &self.slots[i];
-        let older = count(&self.slots[..], Which::OlderLive { stamp });
-        let notes = slot.notes.len();
-        Ok(Status {
-            phase: slot.phase,
-            attempt: slot.attempt,
-            older,
-            notes,
-        })
+        let older = older_live(&self.slots[..], stamp);
+        Ok(self.status_at(i, older))
     }
 
     // Hands a notice to the store.

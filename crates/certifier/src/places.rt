@@ -2,10 +2,12 @@
 ghost use mathlib.Core.Path.{_≡_};
 ghost use Prim.Native.Nat.{_<_};
 ghost use Rattle.model.specs.Slots as M;
+ghost use Rattle.model.specs.Calls.{status-of};
 ghost use Rattle.slot.specs.Changes.{change-of, noted, recorded};
 ghost use Rattle.certifier.specs.Beside.{slot-at, Slot-set};
 use crate::certifier::Certifier;
 use model::Content;
+use model::Status;
 use slot::Change;
 
 impl Certifier {
@@ -43,5 +45,20 @@ impl Certifier {
             ⌝ }
     {
         self.slots[i].record(granule, content);
+    }
+
+    // Where the transaction at a place stands, with so many older ones.
+    pub(crate) fn status_at(&self, i: usize, older: usize) -> Status
+        requires { ⌜ i < 32 ⌝ }
+        ensures { λ r. ⌜ r ≡ status-of (slot-at (now (self .entry)) i) older ⌝ }
+    {
+        let slot = &self.slots[i];
+        let notes = slot.notes.len();
+        Status {
+            phase: slot.phase,
+            attempt: slot.attempt,
+            older,
+            notes,
+        }
     }
 }

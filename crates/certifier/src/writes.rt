@@ -14,8 +14,7 @@ use crate::certifier::Certifier;
 use kind::EntryKind;
 use model::Content;
 use model::Refusal;
-use slot::Which;
-use slot::count;
+use slot::other_writers;
 use store::Archive;
 use store::Store;
 
@@ -52,7 +51,7 @@ impl Certifier {
         if slot.writes.len() >= 16 {
             return Err(Refusal::TooManyWrites);
         }
-        let others = count(&self.slots[..], Which::OtherWriter { stamp, granule });
+        let others = other_writers(&self.slots[..], stamp, granule);
         if store.free_places(granule) <= others {
             return Err(Refusal::NoFreePlace);
         }
@@ -90,31 +89,6 @@ impl Certifier {
         }
         self.record_at(i, granule, Content::Entry(code));
         Ok(())
-    }
-
-    // Records an entry of a kind; its code cannot be foreign.
-    pub fn write_entry<S: Store, K: EntryKind>(
-        &mut self,
-        store: &S,
-        stamp: u64,
-        attempt: u64,
-        granule: usize,
-        kind: &K,
-        value: K::Entry,
-    ) -> Result<(), Refusal>
-        requires { ⌜ S·Archive .sound (now store) ⌝ }
-        ensures arising { λ r. ⌜ M.Arising (λ _ _. ⊥) r ⌝ }
-        ensures does { λ r. ⌜ M.Does
-            (beside (now (self .entry))
-            (S·Archive .means (now (store .entry))) (S·Store .room (now (store .entry))))
-            (M.call-write stamp attempt granule (K·EntryKind .coded (now (kind .entry)) value)
-            (λ c. isSome (K·EntryKind .decoded (now (kind .entry)) c)))
-            (M.outcome (λ _. Y.Recorded) r)
-            (beside (now (self .exit))
-            (S·Archive .means (now (store .entry))) (S·Store .room (now (store .entry))))
-            ⌝ }
-    {
-        self.write(store, stamp, attempt, granule, kind, kind.encode(value))
     }
 
     // Records an absence; a later write replaces it.

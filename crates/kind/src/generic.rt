@@ -15,8 +15,7 @@ pub fn recode<K: EntryKind>(kind: &K, code: u64) -> u64
 
 // An entry of the kind that is written as a code and read back is the same entry.
 pub fn again<K: EntryKind>(kind: &K, value: K::Entry) -> Option<K::Entry>
-    requires { ⌜ K·EntryKind .has (now kind) value ⌝ }
-    ensures { λ r. ⌜ r ≡ Some value ⌝ }
+    ensures { λ r. ⌜ (K·EntryKind .has (now (kind .entry)) value → r ≡ Some value) ⌝ }
 {
     kind.decode(kind.encode(value))
 }

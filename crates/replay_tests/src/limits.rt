@@ -15,7 +15,10 @@ fn thirty_two_slots(rt: LibcRuntime) -> Result<(), Fail> {
     }
     script.push_str("b 33 B\nk 7 1\nb 33 B\n")?;
     expected.push_str("b no 4\nk ok\nb ok 1 B\n")?;
-    expect(over_roster(rt.alloc(), script.as_bytes())?, expected.as_bytes())
+    expect(
+        over_roster(rt.alloc(), script.as_bytes())?,
+        expected.as_bytes(),
+    )
 }
 
 #[test]

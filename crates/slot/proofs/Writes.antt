@@ -14,7 +14,7 @@ use Rattle.model.specs.declared.version.Content.{Content}
 use Rattle.model.specs.declared.version.Write.{Write}
 use Rattle.model.specs.Slots as M
 use Rattle.model.specs.Plans.{nth-write}
-use Rattle.slot.specs.Changes.{first-from, is-of, place-of, recorded}
+use Rattle.slot.specs.Changes.{first-from, is-of, place-of, recorded-in}
 
 pub nth-at : (k : ℕ) (ws : List Write) (d : Write) → k < length ws
     → nth-write k ws ≡ Some (getD ws k d)
@@ -85,24 +85,22 @@ unwritten-from g (w ∷ ws) n e = go (is-of g w) refl (λ q. unwritten-from g ws
 pub unwritten : (g : ℕ) (ws : List Write) → None ≡ place-of g ws → Unwritten g ws
 unwritten g ws e = unwritten-from g ws 0 (sym e)
 
-pub recorded-over : (g : ℕ) (c : Content) (x : M.Slot) (i : ℕ) (ws : List Write)
-    → Some i ≡ place-of g (x .writes) → ws ≡ set (x .writes) i (M.write-to g c)
-    → M.with-writes ws x ≡ recorded g c x
-recorded-over g c x i ws e q =
-    let s = written g (x .writes) i e in
+pub recorded-over : (g : ℕ) (c : Content) (ws us : List Write) (i : ℕ)
+    → Some i ≡ place-of g ws → us ≡ set ws i (M.write-to g c) → us ≡ recorded-in g c ws
+recorded-over g c ws us i e q =
+    let s = written g ws i e in
     let k = s .sets c in
     let o = s .own in
-    rw (o, k) (ap (λ v. M.with-writes v x) q)
+    rw (o, k) q
 
-pub recorded-new : (g : ℕ) (c : Content) (x : M.Slot) (r : Bool) (ws : List Write)
-    → None ≡ place-of g (x .writes) → r ≡ ltb (length (x .writes)) 16
-    → ws ≡ cond r (x .writes ++ (M.write-to g c ∷ [])) (x .writes)
-    → M.with-writes ws x ≡ recorded g c x
-recorded-new g c x true ws e f q =
-    let s = unwritten g (x .writes) e in
+pub recorded-new : (g : ℕ) (c : Content) (ws us : List Write) (r : Bool)
+    → None ≡ place-of g ws → r ≡ ltb (length ws) 16
+    → us ≡ cond r (ws ++ (M.write-to g c ∷ [])) ws → us ≡ recorded-in g c ws
+recorded-new g c ws us true e f q =
+    let s = unwritten g ws e in
     let o = s .own in let k = s .sets c in let l = sym f in
-    rw (o, l, k) (ap (λ v. M.with-writes v x) q)
-recorded-new g c x false ws e f q =
-    let s = unwritten g (x .writes) e in
+    rw (o, l, k) q
+recorded-new g c ws us false e f q =
+    let s = unwritten g ws e in
     let o = s .own in let l = sym f in
-    rw (o, l) (ap (λ v. M.with-writes v x) q)
+    rw (o, l) q

@@ -43,6 +43,8 @@ abbrev pub write-fits : ℕ → List Write → Bool
 write-fits g ws = isSome (M.own g ws) || ltb (length ws) 16
 
 -- a write is recorded where it fits
+abbrev pub recorded-in : ℕ → Content → List Write → List Write
+recorded-in g c ws = cond (write-fits g ws) (M.set-own g c ws) ws
+
 abbrev pub recorded : ℕ → Content → M.Slot → M.Slot
-recorded g c x =
-    cond (write-fits g (x .writes)) (M.with-writes (M.set-own g c (x .writes)) x) x
+recorded g c x = M.with-writes (recorded-in g c (x .writes)) x

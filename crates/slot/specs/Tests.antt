@@ -14,6 +14,8 @@ abbrev pub writes-beside : ℕ → ℕ → M.Slot → Bool
 writes-beside t g x = not (eqb (x .stamp) t) && isSome (M.own g (x .writes))
 
 abbrev pub passes : Which → M.Slot → Bool
+passes W.Free x = M.is-free x
+passes (W.Holds t) x = M.holds t x
 passes W.Live x = M.is-live x
 passes (W.OlderLive t) x = M.older-live t x
 passes W.Validating x = M.validating x

@@ -1,9 +1,10 @@
 // What one slot tells, and what may be done to it.
 ghost use mathlib.Core.Path.{_≡_};
+ghost use Rattle.bounded.specs.Listed.{listed};
 ghost use Rattle.model.specs.Slots as M;
 ghost use Rattle.model.specs.Plans.{nth-write};
 ghost use Rattle.slot.specs.Means.{slot-of};
-ghost use Rattle.slot.specs.Changes.{change-of, noted, recorded, place-of};
+ghost use Rattle.slot.specs.Changes.{change-of, noted, recorded, recorded-in, place-of};
 use crate::slot::Slot;
 use bounded::Bounded;
 use model::Content;
@@ -84,13 +85,7 @@ impl Slot {
     pub fn own(&self, granule: usize) -> Option<Content>
         ensures { λ r. ⌜ r ≡ M.own granule (slot-of (now (self .entry)) .writes) ⌝ }
     {
-        let writes = self.writes.as_slice();
-        for write in writes {
-            if granule == write.granule {
-                return Some(write.content);
-            }
-        }
-        None
+        own_write(self.writes.as_slice(), granule)
     }
 
     // The write that is to be appended next.
@@ -129,13 +124,7 @@ impl Slot {
             ≡ recorded granule content (slot-of (now (self .entry)))
             ⌝ }
     {
-        let write = Write { granule, content };
-        match place_of(self.writes.as_slice(), granule) {
-            Some(i) => self.writes.set(i, write),
-            None => {
-                let _ = self.writes.push(write);
-            }
-        }
+        record_in(&mut self.writes, granule, content);
     }
 
     // Back to phase 1 with its stamp and the next attempt.
@@ -209,6 +198,33 @@ fn contains(notes: &[usize], granule: usize) -> bool
         }
     }
     false
+}
+
+// What has been written to a granule.
+fn own_write(writes: &[Write], granule: usize) -> Option<Content>
+    ensures { λ r. ⌜ r ≡ M.own granule (now (writes .entry)) ⌝ }
+{
+    for write in writes {
+        if granule == write.granule {
+            return Some(write.content);
+        }
+    }
+    None
+}
+
+// Sets the write of a granule where it fits.
+fn record_in(writes: &mut Bounded<Write, 16>, granule: usize, content: Content)
+    ensures { λ _. ⌜ listed (now (writes .exit))
+        ≡ recorded-in granule content (listed (now (writes .entry)))
+        ⌝ }
+{
+    let write = Write { granule, content };
+    match place_of(writes.as_slice(), granule) {
+        Some(i) => writes.set(i, write),
+        None => {
+            let _ = writes.push(write);
+        }
+    }
 }
 
 // Where a granule stands among the writes.

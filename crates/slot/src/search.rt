@@ -16,7 +16,10 @@ use model::Phase;
 
 // Whom to look for.
 #[derive(Clone, Copy)]
-pub enum Which {
+pub(crate) enum Which {
+    Free,
+    // held by the transaction with this stamp
+    Holds { stamp: u64 },
     Live,
     OlderLive { stamp: u64 },
     // in its section or checking
@@ -50,6 +53,8 @@ impl Slot {
         ensures { λ r. ⌜ r ≡ passes which (slot-of (now (self .entry))) ⌝ }
     {
         match which {
+            Which::Free => self.is_free(),
+            Which::Holds { stamp } => self.holds(stamp),
             Which::Live => self.phase.is_live(),
             Which::OlderLive { stamp } => self.phase.is_live() && self.stamp < stamp,
             Which::Validating => match self.phase {
@@ -69,26 +74,13 @@ impl Slot {
     }
 }
 
-// The place of the slot that has this stamp.
-pub fn find(slots: &[Slot], stamp: u64) -> Option<usize>
+// The place of the first of them.
+fn place(slots: &[Slot], which: Which) -> Option<usize>
     ensures within { λ r. ⌜ found r (λ i. i < length (now (slots .entry))) ⌝ }
-    ensures first { λ r. ⌜ r ≡ first-from (M.holds stamp) 0 (slots-of (now (slots .entry))) ⌝ }
+    ensures first { λ r. ⌜ r ≡ first-from (passes which) 0 (slots-of (now (slots .entry))) ⌝ }
 {
     for (i, slot) in slots.iter().enumerate() {
-        if slot.holds(stamp) {
-            return Some(i);
-        }
-    }
-    None
-}
-
-// The place of the first free slot.
-pub fn free_place(slots: &[Slot]) -> Option<usize>
-    ensures within { λ r. ⌜ found r (λ i. i < length (now (slots .entry))) ⌝ }
-    ensures first { λ r. ⌜ r ≡ first-from M.is-free 0 (slots-of (now (slots .entry))) ⌝ }
-{
-    for (i, slot) in slots.iter().enumerate() {
-        if slot.is_free() {
+        if slot.passes(which) {
             return Some(i);
         }
     }
@@ -96,7 +88,7 @@ pub fn free_place(slots: &[Slot]) -> Option<usize>
 }
 
 // How many there are.
-pub fn count(slots: &[Slot], which: Which) -> usize
+fn count(slots: &[Slot], which: Which) -> usize
     ensures { λ r. ⌜ r ≡ M.tally (passes which) (slots-of (now (slots .entry))) ⌝ }
 {
     let mut n = 0;
@@ -127,7 +119,7 @@ fn elder<'a>(best: Option<&'a Slot>, slot: &'a Slot) -> Option<&'a Slot>
 }
 
 // The oldest of them.
-pub fn oldest(slots: &[Slot], which: Which) -> Option<&Slot>
+pub(crate) fn oldest(slots: &[Slot], which: Which) -> Option<&Slot>
     ensures { λ r. ⌜ mapped (λ x. slot-of (now x)) r
         ≡ M.oldest (passes which) (slots-of (now (slots .entry)))
         ⌝ }
@@ -139,6 +131,48 @@ pub fn oldest(slots: &[Slot], which: Which) -> Option<&Slot>
         }
     }
     best
+}
+
+// The place of the slot that has this stamp.
+pub fn find(slots: &[Slot], stamp: u64) -> Option<usize>
+    ensures within { λ r. ⌜ found r (λ i. i < length (now (slots .entry))) ⌝ }
+    ensures first { λ r. ⌜ r ≡ first-from (M.holds stamp) 0 (slots-of (now (slots .entry))) ⌝ }
+{
+    place(slots, Which::Holds { stamp })
+}
+
+// The place of the first free slot.
+pub fn free_place(slots: &[Slot]) -> Option<usize>
+    ensures within { λ r. ⌜ found r (λ i. i < length (now (slots .entry))) ⌝ }
+    ensures first { λ r. ⌜ r ≡ first-from M.is-free 0 (slots-of (now (slots .entry))) ⌝ }
+{
+    place(slots, Which::Free)
+}
+
+// How many live transactions are older than the one with this stamp.
+pub fn older_live(slots: &[Slot], stamp: u64) -> usize
+    ensures { λ r. ⌜ r ≡ M.tally (M.older-live stamp) (slots-of (now (slots .entry))) ⌝ }
+{
+    count(slots, Which::OlderLive { stamp })
+}
+
+// How many other running or waiting transactions write the granule.
+pub fn other_writers(slots: &[Slot], stamp: u64, granule: usize) -> usize
+    ensures { λ r. ⌜ r ≡ M.tally (M.other-writer stamp granule) (slots-of (now (slots .entry))) ⌝ }
+{
+    count(slots, Which::OtherWriter { stamp, granule })
+}
+
+// The stamp of another's open section that writes the granule.
+pub fn other_section(slots: &[Slot], stamp: u64, granule: usize) -> Option<u64>
+    ensures { λ r. ⌜ r ≡ mapped (λ x. x .stamp)
+        (M.oldest (M.other-section stamp granule) (slots-of (now (slots .entry))))
+        ⌝ }
+{
+    match oldest(slots, Which::OtherSection { stamp, granule }) {
+        Some(other) => Some(other.stamp),
+        None => None,
+    }
 }
 
 // Changes the slot that has this stamp, and no other.

@@ -3,11 +3,7 @@ use mathlib.Core.Path.{_≡_, sym}
 use lib.ListN.{length}
 use Rattle.std.proofs.shelf.Lists.{length-take-le, set-past}
 use Rattle.bounded.specs.Listed.{listed}
-use Rattle.bounded.proofs.Facts.{take-set-in}
 use Rattle.bounded.proofs.list.Bounded.set.Needs as need
-
-pub returns-then-i-self : need.returns-then-i-self
-returns-then-i-self g c = search (needs, take-set-in)
 
 pub returns-else-i-self : need.returns-else-i-self
 returns-else-i-self g c =

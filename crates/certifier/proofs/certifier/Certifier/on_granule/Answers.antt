@@ -1,5 +1,4 @@
 use borrow.Author.Needs.{needs}
-use Rattle.slot.specs.Means.{slot-of}
 use Rattle.certifier.specs.Beside.{beside}
 use Rattle.certifier.proofs.Granules.{stopped, blocked, granted}
 use Rattle.certifier.proofs.certifier.Certifier.on_granule.Needs as need
@@ -25,7 +24,7 @@ returns-in-Some g c =
       arising = tt;
       ruled = blocked w (c .args .stamp) (c .args .attempt) (c .args .granule)
           (search needs) (search needs) (c .in-Ok .ensures tt .ruled .0)
-          (slot-of (c .in-Some .other .now)) (c .in-Some .ensures tt);
+          (c .in-Some .stamp) (c .in-Some .ensures tt);
     }
 
 pub returns-in-None : need.returns-in-None

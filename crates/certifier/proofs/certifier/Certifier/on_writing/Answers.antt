@@ -34,7 +34,7 @@ returns-then-len-ge16 g c =
     let q = read-slot (c .args .self .now .slots) i (c .index-self-i .result) (search needs) in
     let o = sym (c .if-is-some .ensures tt ∙ (ap isSome (c .own .ensures)
     ∙ ap (λ z. isSome (own (c .args .granule) (z .writes))) q)) in
-    let n = c .len .ensures ∙ ap (λ z. length (z .writes)) q in
+    let n = c .len .ensures .len ∙ ap (λ z. length (z .writes)) q in
     record {
       within = tt;
       arising = tt;
@@ -52,7 +52,7 @@ returns-then-free-places-others g c =
     let q = read-slot (c .args .self .now .slots) i (c .index-self-i .result) (search needs) in
     let o = sym (c .if-is-some .ensures tt ∙ (ap isSome (c .own .ensures)
     ∙ ap (λ z. isSome (own (c .args .granule) (z .writes))) q)) in
-    let n = c .len .ensures ∙ ap (λ z. length (z .writes)) q in
+    let n = c .len .ensures .len ∙ ap (λ z. length (z .writes)) q in
     record {
       within = tt;
       arising = tt;
@@ -70,7 +70,7 @@ returns g c =
     let q = read-slot (c .args .self .now .slots) i (c .index-self-i .result) (search needs) in
     let o = sym (c .if-is-some .ensures tt ∙ (ap isSome (c .own .ensures)
     ∙ ap (λ z. isSome (own (c .args .granule) (z .writes))) q)) in
-    let n = c .len .ensures ∙ ap (λ z. length (z .writes)) q in
+    let n = c .len .ensures .len ∙ ap (λ z. length (z .writes)) q in
     record {
       within = c .in-Ok .ensures tt .within;
       arising = tt;

@@ -1,6 +1,6 @@
 use borrow.Author.Needs.{needs}
 use Rattle.slot.proofs.Loops.{own-here, own-next, own-none}
-use Rattle.slot.proofs.slot.Slot.own.Needs as need
+use Rattle.slot.proofs.ops.own_write.Needs as need
 
 pub returns-then-granule-write : need.returns-then-granule-write
 returns-then-granule-write c = search (needs, own-here)
