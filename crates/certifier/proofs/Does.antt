@@ -33,7 +33,8 @@ accepted-by w w′ c y e a r = record { after = rw e a; answer = rw e (ap accept
 
 module _ (w : World) (t : ℕ) (o : w .opened ≡ true) (l : 1 ≤ t) (h : t < 2 ^ 62)
     (u : w .last < t) where
-  pub begin-full : None ≡ first-from M.is-free 0 (w .slots) → Does w (call-begin t) (refused 4 []) w
+  pub begin-full : None ≡ first-from M.is-free 0 (w .slots)
+      → Does w (call-begin t) (refused 4 []) w
   begin-full f =
       let z = all-held (w .slots) f in
       refused-by w (call-begin t) (4, []) (grind (arith, tells)) refl

@@ -42,7 +42,8 @@ module _ (w : World) (t a g : ℕ) where
       blocked u q = go (M.oldest (M.other-section t g) (w .slots)) refl q
         where
           go : (o : Option M.Slot) → M.oldest (M.other-section t g) (w .slots) ≡ o
-              → Some u ≡ mapped (λ x. x .stamp) o → refusal (on-granule w t a g) ≡ Some (10, u ∷ [])
+              → Some u ≡ mapped (λ x. x .stamp) o
+              → refusal (on-granule w t a g) ≡ Some (10, u ∷ [])
           go None r e = absurd (grind arith)
           go (Some x) r e = let z : x .stamp ≡ u = cc in last ∙ rw (r, z)
 

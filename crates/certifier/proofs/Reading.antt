@@ -79,7 +79,8 @@ module _ (w : World) (t a g i : ℕ) (x : M.Slot) (p : refusal (on-granule w t a
       reached : w .store .archive .reach g ≡ true
       reached = grind (arith, tells)
 
-      pub too-many : M.note-fits g (x .notes) ≡ false → refusal (on-reading w t a g) ≡ Some (12, [])
+      pub too-many : M.note-fits g (x .notes) ≡ false
+          → refusal (on-reading w t a g) ≡ Some (12, [])
       too-many n = let e = sym o in rest ∙ rw (held, e, reached, n)
 
       pub told : M.note-fits g (x .notes) ≡ true → (v : Option Version)

@@ -171,7 +171,9 @@ impl Certifier {
     pub fn notice<S: Store>(&mut self, store: &mut S, number: u64) -> Result<(), Refusal>
         requires { ⌜ S·Archive .sound (now store) ⌝ }
         ensures sound { λ _. ⌜ S·Archive .sound (now (store .exit)) ⌝ }
-        ensures lent { λ _. ⌜ S·Store .lent (now (store .exit)) ≡ S·Store .lent (now (store .entry)) ⌝ }
+        ensures lent { λ _. ⌜ S·Store .lent (now (store .exit))
+            ≡ S·Store .lent (now (store .entry))
+            ⌝ }
         ensures arising { λ r. ⌜ M.Arising (λ _ _. ⊥) r ⌝ }
         ensures notified { λ r. ⌜ on-ok r
             (λ _. S·Store .notified (now (store .entry)) number (now (store .exit)))
@@ -179,7 +181,8 @@ impl Certifier {
         ensures does { λ r. ⌜ M.Does
             (beside (now (self .entry))
             (S·Archive .means (now (store .entry))) (S·Store .room (now (store .entry))))
-            (M.call-notice (S·Archive .means (now (store .exit)) .reach)) (M.outcome (λ _. Y.Noticed) r)
+            (M.call-notice (S·Archive .means (now (store .exit)) .reach))
+            (M.outcome (λ _. Y.Noticed) r)
             (beside (now (self .exit))
             (S·Archive .means (now (store .exit))) (S·Store .room (now (store .exit))))
             ⌝ }
@@ -195,7 +198,9 @@ impl Certifier {
     pub fn advance<S: Store>(&mut self, store: &mut S) -> Result<Step, Refusal>
         requires { ⌜ S·Archive .sound (now store) ⌝ }
         ensures sound { λ _. ⌜ S·Archive .sound (now (store .exit)) ⌝ }
-        ensures lent { λ _. ⌜ S·Store .lent (now (store .exit)) ≡ S·Store .lent (now (store .entry)) ⌝ }
+        ensures lent { λ _. ⌜ S·Store .lent (now (store .exit))
+            ≡ S·Store .lent (now (store .entry))
+            ⌝ }
         ensures arising { λ r. ⌜ M.Arising (S·Archive .origin (now (store .entry))) r ⌝ }
         ensures does { λ r. ⌜ M.Does
             (beside (now (self .entry))

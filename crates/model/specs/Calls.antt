@@ -64,7 +64,9 @@ rules (call-notice reach) w = not-opened w ∷ []
 -- the note that a read takes
 abbrev pub noting-read : ℕ → ℕ → World → World
 noting-read t g w =
-    with-slots (adjust t (with-notes (noted-read (own-of (w .slots) t g) g (slot-with (w .slots) t .notes)))
+    with-slots
+    (adjust t
+    (with-notes (noted-read (own-of (w .slots) t g) g (slot-with (w .slots) t .notes)))
     (w .slots)) w
 
 -- the record of a write

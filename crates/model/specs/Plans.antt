@@ -17,7 +17,8 @@ use Rattle.model.specs.Numbers.{cause-number}
 use Rattle.model.specs.Archives.{version-with}
 use Rattle.model.specs.Stores.{Stored, append-fault}
 use Rattle.model.specs.Slots.{Slot, oldest, validating, due, conflict, marked-notes, adjust, each}
-use Rattle.model.specs.Slots.{one-put, in-phase, mark-younger, restarted, with-mark, committed, woken}
+use Rattle.model.specs.Slots.{one-put, in-phase, mark-younger, restarted, with-mark}
+use Rattle.model.specs.Slots.{committed, woken}
 use Rattle.model.specs.Worlds.{append-to}
 use Rattle.model.specs.Refusals.{Rule, rule}
 

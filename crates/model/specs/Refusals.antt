@@ -82,12 +82,14 @@ not-told w t g =
 -- 12: a 65th note
 abbrev pub note-65 : World → ℕ → ℕ → Rule
 note-65 w t g =
-    rule (is-none (own-of (w .slots) t g) && not (note-fits g (slot-with (w .slots) t .notes))) 12 []
+    rule (is-none (own-of (w .slots) t g) && not (note-fits g (slot-with (w .slots) t .notes)))
+    12 []
 
 -- 13: a 17th write
 abbrev pub write-17 : World → ℕ → ℕ → Rule
 write-17 w t g =
-    rule (is-none (own-of (w .slots) t g) && leb 16 (length (slot-with (w .slots) t .writes))) 13 []
+    rule (is-none (own-of (w .slots) t g) && leb 16 (length (slot-with (w .slots) t .writes)))
+    13 []
 
 -- 14: of a granule not yet written, the free places do not exceed the other writers
 abbrev pub no-place : World → ℕ → ℕ → Rule

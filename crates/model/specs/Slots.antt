@@ -220,7 +220,8 @@ other-section t g x =
 -- another running or waiting transaction that writes the granule
 abbrev pub other-writer : ℕ → ℕ → Slot → Bool
 other-writer t g x =
-    (eqb (x .phase) 1 || eqb (x .phase) 2) && (not (eqb (x .stamp) t) && isSome (own g (x .writes)))
+    (eqb (x .phase) 1 || eqb (x .phase) 2)
+    && (not (eqb (x .stamp) t) && isSome (own g (x .writes)))
 
 -- to wake: if the oldest live transaction is in phase 2, it goes to phase 3
 abbrev pub woken-by : Option Slot → List Slot → List Slot

@@ -61,3 +61,7 @@ pub record Reach-only (s s′ : Stored) : Type 0 where
 pub record Roomy (a : Archived) (g free : ℕ) : Type 0 where
   pub most : free + length (a .history g) ≤ 64
   pub no-room : a .count ≤ g → free ≡ 0
+
+-- a fault that arose in this layer, at this granule
+abbrev pub Arose : ℕ → ℕ → Fault → Type 0
+Arose layer g f = (f .layer ≡ layer) × (f .granule ≡ g)

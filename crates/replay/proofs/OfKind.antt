@@ -12,7 +12,8 @@ module _ (w w′ : World) (t a g : ℕ) (k : RosterKind) (x : Answer) (e : k ≡
   pub read-at : Does w (call-read t a g (λ n. isSome (roster-entry k n))) x w′
       → Does w (call-read t a g (of-kind g)) x w′
   read-at d =
-      subst (λ (j : RosterKind). Does w (call-read t a g (λ n. isSome (roster-entry j n))) x w′) e d
+      subst (λ (j : RosterKind). Does w (call-read t a g (λ n. isSome (roster-entry j n))) x w′)
+      e d
 
 -- the same answer in other words
 pub answered-as : (w w′ : World) (c : Call) (x y : Answer) → x ≡ y → Does w c x w′ → Does w c y w′

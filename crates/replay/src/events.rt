@@ -51,7 +51,9 @@ pub fn put_event<S: Store>(
 ) -> Result<Reply, Refusal>
     requires { ⌜ S·Archive .sound (now store) ⌝ }
     ensures sound { λ _. ⌜ S·Archive .sound (now (store .exit)) ⌝ }
-    ensures lent { λ _. ⌜ S·Store .lent (now (store .exit)) ≡ S·Store .lent (now (store .entry)) ⌝ }
+    ensures lent { λ _. ⌜ S·Store .lent (now (store .exit))
+        ≡ S·Store .lent (now (store .entry))
+        ⌝ }
     ensures put { λ r. ⌜ Put-event
         (sense (S·Archive .means) (S·Store .room) (S·Archive .origin))
         (now (certifier .entry)) (now (store .entry)) (said (now (event .entry))) r

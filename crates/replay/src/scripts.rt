@@ -23,7 +23,9 @@ fn put_line<S: Store>(
 ) -> Result<(), AllocError>
     requires { ⌜ S·Archive .sound (now store) ⌝ }
     ensures sound { λ _. ⌜ S·Archive .sound (now (store .exit)) ⌝ }
-    ensures lent { λ _. ⌜ S·Store .lent (now (store .exit)) ≡ S·Store .lent (now (store .entry)) ⌝ }
+    ensures lent { λ _. ⌜ S·Store .lent (now (store .exit))
+        ≡ S·Store .lent (now (store .entry))
+        ⌝ }
     ensures put { λ r. ⌜ Put-line
         (sense (S·Archive .means) (S·Store .room) (S·Archive .origin))
         (now (certifier .entry)) (now (store .entry)) (now (line .entry))
@@ -49,7 +51,9 @@ fn put_lines<S: Store>(
 ) -> Result<(), AllocError>
     requires { ⌜ S·Archive .sound (now store) ⌝ }
     ensures sound { λ _. ⌜ S·Archive .sound (now (store .exit)) ⌝ }
-    ensures lent { λ _. ⌜ S·Store .lent (now (store .exit)) ≡ S·Store .lent (now (store .entry)) ⌝ }
+    ensures lent { λ _. ⌜ S·Store .lent (now (store .exit))
+        ≡ S·Store .lent (now (store .entry))
+        ⌝ }
     ensures put { λ r. ⌜ Put-lines
         (sense (S·Archive .means) (S·Store .room) (S·Archive .origin))
         (now (certifier .entry)) (now (store .entry)) (now (script .entry))
@@ -78,7 +82,9 @@ pub fn replay<S: Store>(
 ) -> Result<(), AllocError>
     requires { ⌜ S·Archive .sound (now store) ⌝ }
     ensures sound { λ _. ⌜ S·Archive .sound (now (store .exit)) ⌝ }
-    ensures lent { λ _. ⌜ S·Store .lent (now (store .exit)) ≡ S·Store .lent (now (store .entry)) ⌝ }
+    ensures lent { λ _. ⌜ S·Store .lent (now (store .exit))
+        ≡ S·Store .lent (now (store .entry))
+        ⌝ }
     ensures put { λ r. ⌜ Put-script
         (sense (S·Archive .means) (S·Store .room) (S·Archive .origin))
         (now (certifier .entry)) (now (store .entry)) (now (script .entry))

@@ -1,11 +1,11 @@
 // A script put to a new certifier beside a store.
 use certifier::Certifier;
-use layers::Link;
-use layers::LinkArchive;
-use layers::LinkStore;
-use layers::Pair;
-use layers::PairArchive;
-use layers::PairStore;
+use link::Link;
+use link::LinkArchive;
+use link::LinkStore;
+use pair::Pair;
+use pair::PairArchive;
+use pair::PairStore;
 use replay::replay;
 use std::alloc::AllocError;
 use std::alloc::Global;

@@ -1,12 +1,12 @@
 // Reads a script from standard input, puts it to a certifier beside an empty roster, and writes
 // the answers. A refused line is an answer like any other, so the status is 0 then too.
 use certifier::Certifier;
-use layers::Link;
-use layers::LinkArchive;
-use layers::LinkStore;
-use layers::Pair;
-use layers::PairArchive;
-use layers::PairStore;
+use link::Link;
+use link::LinkArchive;
+use link::LinkStore;
+use pair::Pair;
+use pair::PairArchive;
+use pair::PairStore;
 use replay::replay;
 use std::io;
 use std::io::Read;

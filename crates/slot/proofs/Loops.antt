@@ -41,7 +41,8 @@ mem-none g ns i h = at-drop-all (M.mem g) ns i h
 
 module _ (g : ℕ) (ws : List Write) (i : ℕ) (d : Write) (h : i < length ws) where
   own-step : M.own g (drop i ws)
-      ≡ cond (eqb g (getD ws i d .granule)) (Some (getD ws i d .content)) (M.own g (drop (i + 1) ws))
+      ≡ cond (eqb g (getD ws i d .granule)) (Some (getD ws i d .content))
+      (M.own g (drop (i + 1) ws))
   own-step = at-drop-more (M.own g) ws i d h
 
   pub own-here : g ≡ getD ws i d .granule → M.own g (drop i ws) ≡ Some (getD ws i d .content)
@@ -55,7 +56,8 @@ own-none g ws i h = at-drop-all (M.own g) ws i h
 
 module _ (g : ℕ) (ws : List Write) (i : ℕ) (d : Write) (h : i < length ws) where
   place-step : first-from (is-of g) i (drop i ws)
-      ≡ cond (eqb g (getD ws i d .granule)) (Some i) (first-from (is-of g) (i + 1) (drop (i + 1) ws))
+      ≡ cond (eqb g (getD ws i d .granule)) (Some i)
+      (first-from (is-of g) (i + 1) (drop (i + 1) ws))
   place-step = at-drop-more (first-from (is-of g) i) ws i d h
 
   pub place-here : g ≡ getD ws i d .granule → first-from (is-of g) i (drop i ws) ≡ Some i

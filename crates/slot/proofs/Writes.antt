@@ -55,7 +55,10 @@ written-from g (w ∷ ws) n i e = go (is-of g w) refl (λ q. written-from g ws (
         record {
           place = suc (s .place);
           counted = omega (arith, s .counted);
-          written = record { own = rw q (s .written .own); sets = λ c. rw (q, s .written .sets c) };
+          written = record {
+            own = rw q (s .written .own);
+            sets = λ c. rw (q, s .written .sets c);
+          };
         }
 
 pub written : (g : ℕ) (ws : List Write) (i : ℕ) → Some i ≡ place-of g ws → Written g ws i

@@ -1,13 +1,13 @@
 // The four faults of an append, with the layer where each arose and the granule as it counts it.
-use layers::Link;
-use layers::LinkStore;
-use layers::Pair;
-use layers::PairStore;
+use link::Link;
+use link::LinkStore;
 use model::Cause;
 use model::Content;
 use model::Fault;
 use model::FaultDebug;
 use model::FaultPartialEq;
+use pair::Pair;
+use pair::PairStore;
 use std::test::*;
 use store::Store;
 use table::Table;

@@ -1,17 +1,17 @@
 // Pairs, links and a pile of them.
 use crate::append::append_and_read;
-use layers::Link;
-use layers::LinkArchive;
-use layers::LinkStore;
-use layers::Pair;
-use layers::PairArchive;
-use layers::PairStore;
+use link::Link;
+use link::LinkArchive;
+use link::LinkStore;
 use model::Content;
 use model::FaultDebug;
 use model::FaultPartialEq;
 use model::Version;
 use model::version::VersionDebug;
 use model::version::VersionPartialEq;
+use pair::Pair;
+use pair::PairArchive;
+use pair::PairStore;
 use std::test::*;
 use store::Archive;
 use store::Store;

@@ -23,7 +23,8 @@ returns-in-Err g c =
     let e = c .in-Err .ensures tt in
     record {
       arising = e .arising;
-      does = read-at w w′ (c .args .stamp) (c .args .attempt) (c .args .granule) (c .of-kind .result)
+      does = read-at w w′ (c .args .stamp) (c .args .attempt) (c .args .granule)
+          (c .of-kind .result)
           _ (c .of-kind .ensures) (e .does);
     }
 
@@ -43,7 +44,8 @@ returns-in-Some g c =
     record {
       arising = tt;
       does = answered-as w w′ k _ _ q
-          (read-at w w′ (c .args .stamp) (c .args .attempt) (c .args .granule) (c .of-kind .result)
+          (read-at w w′ (c .args .stamp) (c .args .attempt) (c .args .granule)
+          (c .of-kind .result)
           _ (c .of-kind .ensures) (e .does));
     }
 
@@ -61,6 +63,7 @@ returns-in-None g c =
     record {
       arising = tt;
       does = answered-as w w′ k _ _ (ap f (c .in-None .is))
-          (read-at w w′ (c .args .stamp) (c .args .attempt) (c .args .granule) (c .of-kind .result)
+          (read-at w w′ (c .args .stamp) (c .args .attempt) (c .args .granule)
+          (c .of-kind .result)
           _ (c .of-kind .ensures) (e .does));
     }

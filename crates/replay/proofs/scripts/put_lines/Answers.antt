@@ -80,7 +80,8 @@ returns g c =
         done .0,
         front-all σ (c .args .certifier .now) (c .args .store .now)
             (lines-of (c .args .script .now)) (lines-of (c .loop-cut .rest .now)) (done .0)
-            (c .loop-cut .certifier) (c .loop-cut .store) (c .in-rest .ensures tt .lines) (done .1),
+            (c .loop-cut .certifier) (c .loop-cut .store)
+            (c .in-rest .ensures tt .lines) (done .1),
         done .2,
       );
     }

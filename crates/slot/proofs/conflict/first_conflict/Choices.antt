@@ -7,7 +7,8 @@ use Rattle.slot.proofs.conflict.first_conflict.Given as given
 abbrev pub Inv-loop-note : given.InvT-loop-note
 Inv-loop-note l =
     (l .found ≡ None)
-    × (mem (l .write .granule) (drop (l .note-index) (l .notes)) ≡ mem (l .write .granule) (l .notes))
+    × (mem (l .write .granule) (drop (l .note-index) (l .notes))
+    ≡ mem (l .write .granule) (l .notes))
 
 abbrev pub Inv-writes : given.InvT-writes
 Inv-writes l =

@@ -6,4 +6,5 @@ use Rattle.slot.proofs.ops.place_of.Given as given
 
 abbrev pub Inv-loop-i : given.InvT-loop-i
 Inv-loop-i l =
-    first-from (is-of (l .granule)) (l .i) (drop (l .i) (l .writes)) ≡ place-of (l .granule) (l .writes)
+    first-from (is-of (l .granule)) (l .i) (drop (l .i) (l .writes))
+    ≡ place-of (l .granule) (l .writes)

@@ -8,6 +8,7 @@ use Rattle.certifier.proofs.certifier.Certifier.change_at.Needs as need
 
 pub returns : need.returns
 returns c =
-    let e = one-changed slot-of (change-of (c .args .change)) (c .args .self .now .slots) (c .args .i)
+    let e = one-changed slot-of (change-of (c .args .change)) (c .args .self .now .slots)
+    (c .args .i)
     (c .index-self-i .result) (c .change .last .self) M.free-slot (c .change .ensures) in
     record { opened = refl; last = refl; slots = e }

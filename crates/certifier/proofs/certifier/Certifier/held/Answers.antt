@@ -8,7 +8,8 @@ returns-in-Some c =
     record {
       within = search needs;
       arising = tt;
-      ruled = found (slots-in (c .args .self .now)) (c .args .stamp) (c .in-Some .i) (search needs);
+      ruled = found (slots-in (c .args .self .now)) (c .args .stamp) (c .in-Some .i)
+          (search needs);
     }
 
 pub returns-in-None : need.returns-in-None

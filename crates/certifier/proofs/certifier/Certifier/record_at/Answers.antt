@@ -8,6 +8,7 @@ use Rattle.certifier.proofs.certifier.Certifier.record_at.Needs as need
 
 pub returns : need.returns
 returns c =
-    let e = one-changed slot-of (recorded (c .args .granule) (c .args .content)) (c .args .self .now .slots) (c .args .i)
+    let e = one-changed slot-of (recorded (c .args .granule) (c .args .content))
+    (c .args .self .now .slots) (c .args .i)
     (c .index-self-i .result) (c .record .last .self) M.free-slot (c .record .ensures) in
     record { opened = refl; last = refl; slots = e }

@@ -10,7 +10,8 @@ returns-in-Err g c =
     let e = c .in-Err .ensures tt in
     record {
       arising = e .arising;
-      does = write-refused (beside (c .args .self .now) (g .S·Archive .means s) (g .S·Store .room s))
+      does = write-refused
+          (beside (c .args .self .now) (g .S·Archive .means s) (g .S·Store .room s))
           (c .args .stamp) (c .args .attempt) (c .args .granule) (c .args .code)
           (λ n. isSome (g .K·EntryKind .decoded (c .args .kind .now) n)) _ (e .ruled);
     }
