@@ -6,7 +6,7 @@ ghost use Rattle.script.specs.Writing.{spaced};
 ghost use Rattle.answer_text.specs.Output.{Appends};
 use std::alloc::AllocError;
 
-pub fn push_byte(out: &mut Vec<u8>, byte: u8) -> Result<(), AllocError>
+pub(crate) fn push_byte(out: &mut Vec<u8>, byte: u8) -> Result<(), AllocError>
     ensures { λ r. ⌜ Appends
         (vec-items (now (out .entry))) (vec-items (now (out .exit))) (byte ∷ []) r
         ⌝ }
@@ -15,7 +15,7 @@ pub fn push_byte(out: &mut Vec<u8>, byte: u8) -> Result<(), AllocError>
     Ok(())
 }
 
-pub fn push_bytes(out: &mut Vec<u8>, bytes: &[u8]) -> Result<(), AllocError>
+pub(crate) fn push_bytes(out: &mut Vec<u8>, bytes: &[u8]) -> Result<(), AllocError>
     ensures { λ r. ⌜ Appends
         (vec-items (now (out .entry))) (vec-items (now (out .exit))) (now (bytes .entry)) r
         ⌝ }
@@ -60,7 +60,7 @@ fn push_numbers(out: &mut Vec<u8>, numbers: &[u64]) -> Result<(), AllocError>
 }
 
 // A word, and each number after a space.
-pub fn push_word(out: &mut Vec<u8>, word: &[u8], numbers: &[u64]) -> Result<(), AllocError>
+pub(crate) fn push_word(out: &mut Vec<u8>, word: &[u8], numbers: &[u64]) -> Result<(), AllocError>
     ensures { λ r. ⌜ Appends
         (vec-items (now (out .entry))) (vec-items (now (out .exit)))
         (now (word .entry) ++ spaced (now (numbers .entry))) r

@@ -77,7 +77,11 @@ fn push_status(out: &mut Vec<u8>, status: Status) -> Result<(), AllocError>
     )
 }
 
-pub fn push_reply(out: &mut Vec<u8>, event: &Event<'_>, reply: Reply) -> Result<(), AllocError>
+pub(crate) fn push_reply(
+    out: &mut Vec<u8>,
+    event: &Event<'_>,
+    reply: Reply,
+) -> Result<(), AllocError>
     ensures { λ r. ⌜ Appends
         (vec-items (now (out .entry))) (vec-items (now (out .exit)))
         (reply-text (said (now (event .entry))) reply) r
@@ -98,7 +102,7 @@ pub fn push_reply(out: &mut Vec<u8>, event: &Event<'_>, reply: Reply) -> Result<
     }
 }
 
-pub fn push_refusal(out: &mut Vec<u8>, refusal: Refusal) -> Result<(), AllocError>
+pub(crate) fn push_refusal(out: &mut Vec<u8>, refusal: Refusal) -> Result<(), AllocError>
     ensures { λ r. ⌜ Appends
         (vec-items (now (out .entry))) (vec-items (now (out .exit))) (refusal-text refusal) r
         ⌝ }

@@ -23,7 +23,7 @@ pub record Steady (f : M.Slot → M.Slot) : Type 0 where
   pub held : (x : M.Slot) → M.is-free x ≡ false → M.is-free (f x) ≡ false
 
 held-adjust : (t u : ℕ) (f : M.Slot → M.Slot) → Steady f → (u ≡ t → ⊥) → (xs : List M.Slot)
-  → M.held u (M.adjust t f xs) ≡ M.held u xs
+    → M.held u (M.adjust t f xs) ≡ M.held u xs
 held-adjust t u f s n [] = refl
 held-adjust t u f s n (x ∷ xs) =
     let r = held-adjust t u f s n xs in
@@ -32,7 +32,7 @@ held-adjust t u f s n (x ∷ xs) =
     grind (arith, tells)
 
 held-place : (t u : ℕ) → (u ≡ t → ⊥) → (xs : List M.Slot)
-  → M.held u (M.place (M.new-slot t) xs) ≡ M.held u xs
+    → M.held u (M.place (M.new-slot t) xs) ≡ M.held u xs
 held-place t u n [] = refl
 held-place t u n (x ∷ xs) = let r = held-place t u n xs in grind (arith, tells)
 
@@ -54,13 +54,13 @@ module _ (w : World) (t u : ℕ) (n : u ≡ t → ⊥) where
   write-kept g c = held-adjust t u _ (steady-writes _) n (w .slots)
 
   spared-kept : (b : Bool) (g : ℕ)
-    → M.held u (cond b (C.noting-read t g w) w .slots) ≡ M.held u (w .slots)
+      → M.held u (cond b (C.noting-read t g w) w .slots) ≡ M.held u (w .slots)
   spared-kept true g = note-kept g
   spared-kept false g = refl
 
 -- the slots of others after an answered call
 answered-kept : (r : Option Refused) (c : C.Call) (w : World) (t u : ℕ) → caller c ≡ Some t
-  → (u ≡ t → ⊥) → M.held u (C.answered r c w .0 .slots) ≡ M.held u (w .slots)
+    → (u ≡ t → ⊥) → M.held u (C.answered r c w .0 .slots) ≡ M.held u (w .slots)
 answered-kept None C.call-open w t u e n = refl
 answered-kept None (C.call-begin s) w t u e n =
     let q : s ≡ t = cc in rw q (held-place t u n (w .slots))
@@ -107,7 +107,7 @@ spared-same (C.call-status t) w n e = refl
 spared-same (C.call-notice reach) w n e = refl
 
 refused-same : (r : Option Refused) (c : C.Call) (w : World) (n : ℕ) (xs : List ℕ)
-  → C.answered r c w .1 ≡ C.refused n xs → (n ≡ 15 → ⊥) → C.answered r c w .0 ≡ w
+    → C.answered r c w .1 ≡ C.refused n xs → (n ≡ 15 → ⊥) → C.answered r c w .0 ≡ w
 refused-same None c w n xs e k = absurd (grind arith)
 refused-same (Some r) c w n xs e k =
     let q : r .0 ≡ n = cc in spared-same c w (r .0) (rw q (ne-eqb n 15 k))
@@ -118,12 +118,12 @@ refusals-keep c w n xs e k = refused-same (refusal (C.rules c w)) c w n xs e k
 -- versions
 
 spared-history : (b : Bool) (t g : ℕ) (w : World)
-  → cond b (C.noting-read t g w) w .store .archive .history ≡ w .store .archive .history
+    → cond b (C.noting-read t g w) w .store .archive .history ≡ w .store .archive .history
 spared-history true t g w = refl
 spared-history false t g w = refl
 
 versions-kept : (r : Option Refused) (c : C.Call) (w : World) → (c ≡ C.call-advance → ⊥)
-  → C.answered r c w .0 .store .archive .history ≡ w .store .archive .history
+    → C.answered r c w .0 .store .archive .history ≡ w .store .archive .history
 versions-kept None C.call-open w n = refl
 versions-kept None (C.call-begin t) w n = refl
 versions-kept None (C.call-read t a g k) w n = refl

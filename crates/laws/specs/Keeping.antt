@@ -24,14 +24,14 @@ caller (M.call-notice reach) = None
 -- a call of one transaction leaves the slot of every other as it was
 abbrev pub Others-kept : Type 0
 Others-kept = (c : M.Call) (w : World) (t u : ℕ) → caller c ≡ Some t → (u ≡ t → ⊥)
-  → held u (M.step c w .0 .slots) ≡ held u (w .slots)
+    → held u (M.step c w .0 .slots) ≡ held u (w .slots)
 
 -- a refusal leaves certifier and store as they were, but for the note that 15 keeps
 abbrev pub Refusals-keep : Type 0
 Refusals-keep = (c : M.Call) (w : World) (n : ℕ) (xs : List ℕ)
-  → M.step c w .1 ≡ M.refused n xs → (n ≡ 15 → ⊥) → M.step c w .0 ≡ w
+    → M.step c w .1 ≡ M.refused n xs → (n ≡ 15 → ⊥) → M.step c w .0 ≡ w
 
 -- versions come by an advance only
 abbrev pub Only-advance-appends : Type 0
 Only-advance-appends = (c : M.Call) (w : World) → (c ≡ M.call-advance → ⊥)
-  → M.step c w .0 .store .archive .history ≡ w .store .archive .history
+    → M.step c w .0 .store .archive .history ≡ w .store .archive .history

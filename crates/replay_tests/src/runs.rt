@@ -15,7 +15,7 @@ use table::TableArchive;
 use table::TableStore;
 
 // What a script gets over a table in these words.
-pub fn over_table(
+pub(crate) fn over_table(
     heap: Global,
     words: &mut [u64],
     granules: usize,
@@ -30,7 +30,7 @@ pub fn over_table(
 }
 
 // What a script gets over the roster's store.
-pub fn over_roster(heap: Global, script: &[u8]) -> Result<Vec<u8>, AllocError> {
+pub(crate) fn over_roster(heap: Global, script: &[u8]) -> Result<Vec<u8>, AllocError> {
     let mut near = [0u64; 128];
     let mut far = [0u64; 128];
     let link = Link::new(Table::new(&mut far, 8, 8));
@@ -41,6 +41,6 @@ pub fn over_roster(heap: Global, script: &[u8]) -> Result<Vec<u8>, AllocError> {
     Ok(answers)
 }
 
-pub fn expect(answers: Vec<u8>, expected: &[u8]) -> Result<(), Fail> {
+pub(crate) fn expect(answers: Vec<u8>, expected: &[u8]) -> Result<(), Fail> {
     check(answers.as_slice() == expected)
 }

@@ -3,5 +3,7 @@ use Rattle.laws.proofs.calls_keep.Needs as need
 
 pub returns : need.returns
 returns c = record {
-    others = others-kept; refusals = refusals-keep; versions = only-advance-appends
-  }
+  others = others-kept;
+  refusals = refusals-keep;
+  versions = only-advance-appends;
+}
