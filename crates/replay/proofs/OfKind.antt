@@ -5,7 +5,7 @@ use Rattle.std.specs.Options.{isSome}
 use Rattle.kind.specs.declared.roster.RosterKind.{RosterKind}
 use Rattle.kind.specs.Roster.{kind-at, roster-entry}
 use Rattle.model.specs.Worlds.{World}
-use Rattle.model.specs.Calls.{Call, Answer, Does, call-read}
+use Rattle.model.specs.Calls.{Call, Answer, Does, call-read, call-write}
 use Rattle.replay.specs.Replays.{of-kind}
 
 module _ (w w′ : World) (t a g : ℕ) (k : RosterKind) (x : Answer) (e : k ≡ kind-at g) where
@@ -13,6 +13,12 @@ module _ (w w′ : World) (t a g : ℕ) (k : RosterKind) (x : Answer) (e : k ≡
       → Does w (call-read t a g (of-kind g)) x w′
   read-at d =
       subst (λ (j : RosterKind). Does w (call-read t a g (λ n. isSome (roster-entry j n))) x w′)
+      e d
+
+  pub write-at : (c : ℕ) → Does w (call-write t a g c (λ n. isSome (roster-entry k n))) x w′
+      → Does w (call-write t a g c (of-kind g)) x w′
+  write-at c d =
+      subst (λ (j : RosterKind). Does w (call-write t a g c (λ n. isSome (roster-entry j n))) x w′)
       e d
 
 -- the same answer in other words

@@ -43,6 +43,32 @@ fn read_code<S: Store>(
     }
 }
 
+// A write as the roster makes it, of the granule's kind.
+fn write_code<S: Store>(
+    certifier: &mut Certifier,
+    store: &S,
+    stamp: u64,
+    attempt: u64,
+    granule: usize,
+    code: u64,
+) -> Result<Reply, Refusal>
+    requires { ⌜ S·Archive .sound (now store) ⌝ }
+    ensures arising { λ r. ⌜ M.Arising (λ _ _. ⊥) r ⌝ }
+    ensures does { λ r. ⌜ M.Does
+        (beside (now (certifier .entry))
+        (S·Archive .means (now (store .entry))) (S·Store .room (now (store .entry))))
+        (M.call-write stamp attempt granule code (of-kind granule)) (M.outcome (λ y. y) r)
+        (beside (now (certifier .exit))
+        (S·Archive .means (now (store .entry))) (S·Store .room (now (store .entry))))
+        ⌝ }
+{
+    let kind = RosterKind::of(granule);
+    match certifier.write(store, stamp, attempt, granule, &kind, code) {
+        Ok(()) => Ok(Reply::Recorded),
+        Err(refusal) => Err(refusal),
+    }
+}
+
 // Puts an event to the certifier.
 pub fn put_event<S: Store>(
     certifier: &mut Certifier,
@@ -76,17 +102,7 @@ pub fn put_event<S: Store>(
             attempt,
             granule,
             code,
-        } => {
-            certifier.write(
-                store,
-                stamp,
-                attempt,
-                granule,
-                &RosterKind::of(granule),
-                code,
-            )?;
-            Ok(Reply::Recorded)
-        }
+        } => { write_code(certifier, store, stamp, attempt, granule, code) }
         Event::Erase {
             stamp,
             attempt,
