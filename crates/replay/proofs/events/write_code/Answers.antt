@@ -13,7 +13,8 @@ returns-in-Ok g c =
       arising = tt;
       does = write-at (beside (c .args .certifier .now) a room)
           (beside (c .write .last .self) a room) (c .args .stamp) (c .args .attempt)
-          (c .args .granule) (c .of-kind .result) _ (c .of-kind .ensures) (c .args .code) (e .does);
+          (c .args .granule) (c .of-kind .result) _ (c .of-kind .ensures) (c .args .code)
+          (e .does);
     }
 
 pub returns-in-Err : need.returns-in-Err
@@ -26,5 +27,6 @@ returns-in-Err g c =
       arising = e .arising;
       does = write-at (beside (c .args .certifier .now) a room)
           (beside (c .write .last .self) a room) (c .args .stamp) (c .args .attempt)
-          (c .args .granule) (c .of-kind .result) _ (c .of-kind .ensures) (c .args .code) (e .does);
+          (c .args .granule) (c .of-kind .result) _ (c .of-kind .ensures) (c .args .code)
+          (e .does);
     }
