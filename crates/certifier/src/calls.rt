@@ -1,6 +1,6 @@
 // The calls of a transaction's life, and those that ask nothing of one.
 ghost use mathlib.Core.Path.{_≡_};
-ghost use Rattle.std.specs.Vec.{made as on-ok};
+ghost use Rattle.std.specs.Vec.{made as on-ok, refused as on-err};
 ghost use Rattle.model.specs.declared.answer.Reply.the-variants as Y;
 ghost use Rattle.model.specs.Calls as M;
 ghost use Rattle.certifier.specs.Beside.{beside, Just-made};
@@ -174,6 +174,7 @@ impl Certifier {
         ensures lent { λ _. ⌜ S·Store .lent (now (store .exit))
             ≡ S·Store .lent (now (store .entry))
             ⌝ }
+        ensures same { λ r. ⌜ on-err r (λ _. now (store .exit) ≡ now (store .entry)) ⌝ }
         ensures arising { λ r. ⌜ M.Arising (λ _ _. ⊥) r ⌝ }
         ensures notified { λ r. ⌜ on-ok r
             (λ _. S·Store .notified (now (store .entry)) number (now (store .exit)))
@@ -201,6 +202,7 @@ impl Certifier {
         ensures lent { λ _. ⌜ S·Store .lent (now (store .exit))
             ≡ S·Store .lent (now (store .entry))
             ⌝ }
+        ensures same { λ r. ⌜ on-err r (λ _. now (store .exit) ≡ now (store .entry)) ⌝ }
         ensures arising { λ r. ⌜ M.Arising (S·Archive .origin (now (store .entry))) r ⌝ }
         ensures does { λ r. ⌜ M.Does
             (beside (now (self .entry))

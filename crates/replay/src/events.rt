@@ -1,5 +1,6 @@
 // Events as calls.
 ghost use mathlib.Core.Path.{_≡_};
+ghost use Rattle.std.specs.Vec.{refused as on-err};
 ghost use Rattle.script.specs.Events.{said};
 ghost use Rattle.model.specs.Calls as M;
 ghost use Rattle.certifier.specs.Beside.{beside};
@@ -80,6 +81,7 @@ pub fn put_event<S: Store>(
     ensures lent { λ _. ⌜ S·Store .lent (now (store .exit))
         ≡ S·Store .lent (now (store .entry))
         ⌝ }
+    ensures same { λ r. ⌜ on-err r (λ _. now (store .exit) ≡ now (store .entry)) ⌝ }
     ensures put { λ r. ⌜ Put-event
         (sense (S·Archive .means) (S·Store .room) (S·Archive .origin))
         (now (certifier .entry)) (now (store .entry)) (said (now (event .entry))) r
