@@ -1,4 +1,6 @@
 // A list of at most N items in fixed memory.
+#![tactic(auto)]
+
 mod list;
 mod ops;
 

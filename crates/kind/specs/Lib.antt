@@ -6,3 +6,4 @@ pub mod Roster
 pub mod DutyLaw
 pub mod Made
 pub mod LicenceLaw
+pub mod RosterLaw

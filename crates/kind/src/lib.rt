@@ -1,4 +1,6 @@
 // Entry kinds: each entry has a code, and each code at most one entry.
+#![tactic(auto)]
+
 mod codes;
 mod duties;
 mod duty;

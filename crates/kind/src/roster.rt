@@ -1,6 +1,7 @@
 // The roster's kinds: a granule holds duties or licences, by its number.
 ghost use Rattle.std.specs.Prelude.{◌≡◌};
 ghost use Rattle.kind.specs.Roster.{kind_at, of_kind, roster_code, roster_entry};
+ghost use Rattle.kind.specs.RosterLaw.{roster_there, roster_back};
 ghost use Rattle.std.proofs.Common.{rules};
 
 use crate::duties::Duties;
@@ -44,6 +45,10 @@ impl EntryKind for RosterKind {
     ghost decoded = { roster_entry };
 
     ghost fits = { Prim.search rules };
+
+    ghost there = { roster_there };
+
+    ghost back = { roster_back };
 
     ghost own = { Prim.search rules };
 

@@ -1,4 +1,5 @@
 // The link: a store that is reached by two radios.
+#![tactic(auto)]
 mod radios;
 
 pub use radios::Link;

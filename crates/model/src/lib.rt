@@ -1,5 +1,7 @@
 // The words of the subject: versions, faults, phases, marks, steps, answers and refusals.
 // What they mean, and what each call does, is defined in `specs/`.
+#![tactic(auto)]
+
 pub mod answer;
 pub mod fault;
 pub mod numbers;

@@ -1,4 +1,5 @@
 // The pair: two stores as one.
+#![tactic(auto)]
 mod halves;
 
 pub use halves::Pair;

@@ -1,4 +1,6 @@
 // Reads a script: its lines, and the event that each line is.
+#![tactic(auto)]
+
 mod events;
 mod letters;
 mod lines;

@@ -1,3 +1,4 @@
 // Tests of scripts and of answer texts.
+#![tactic(auto)]
 #[cfg(test)]
 mod tests;
