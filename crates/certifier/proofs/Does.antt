@@ -26,16 +26,16 @@ accepted_by w w' c y e a r = record { after = rw e a; answer = rw e (ap accepted
 
 module _ (w : World) (t : ℕ) (o : w.opened ≡ true) (l : 1 ≤ t) (h : t < 2 ^ 62)
     (u : w.last < t) where
-  pub begin-full : None ≡ first_from M.is_free 0 w.slots
+  pub begin_full : None ≡ first_from M.is_free 0 w.slots
       → Does w (call_begin t) (refused 4 []) w
-  begin-full f =
+  begin_full f =
       let z = all_held w.slots f in
       refused_by w (call_begin t) (4, []) (grind (arith, nat_tests)) refl
 
-  pub begin-made : (i : ℕ) (w' : World) → Some i ≡ first_from M.is_free 0 w.slots
+  pub begin_made : (i : ℕ) (w' : World) → Some i ≡ first_from M.is_free 0 w.slots
       → w' ≡ world w.opened t (set w.slots i (M.new_slot t)) w.store
       → Does w (call_begin t) (accepted (Y.Began 1)) w'
-  begin-made i w' f e =
+  begin_made i w' f e =
       let v = vacant w.slots i f in
       let n = v.some in
       let k = v.places (M.new_slot t) in

@@ -51,9 +51,9 @@ module _ (xs : List M.Slot) (t a : ℕ) where
     in_phase n =
         (past (of_attempt xs t a) (wrong_phase xs t needed ∷ []) p.0 ∙ rw (it, n), p.1)
 
-    pub out-of-phase : needed x.phase ≡ false
+    pub out_of_phase : needed x.phase ≡ false
         → refusal (of_phase xs t a needed) ≡ Some (9, x.phase ∷ [])
-    out-of-phase n =
+    out_of_phase n =
         past (of_attempt xs t a) (wrong_phase xs t needed ∷ []) p.0 ∙ rw (it, n)
 
 -- the phases that a call does not need

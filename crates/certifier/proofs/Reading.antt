@@ -53,9 +53,9 @@ module _ (w : World) (t a g i : ℕ) (x : M.Slot) (p : refusal (on_granule w t a
       )
 
   module _ (o : None ≡ M.own g x.writes) where
-    pub not-reached : (c : Cause) → granule_fault w.store.archive g ≡ Some c
+    pub not_reached : (c : Cause) → granule_fault w.store.archive g ≡ Some c
         → refusal (on_reading w t a g) ≡ Some (11, g ∷ cause_number c ∷ [])
-    not-reached c f = go (w.store.archive.reach g) refl
+    not_reached c f = go (w.store.archive.reach g) refl
       where
         go : (b : Bool) → w.store.archive.reach g ≡ b
             → refusal (on_reading w t a g) ≡ Some (11, g ∷ cause_number c ∷ [])

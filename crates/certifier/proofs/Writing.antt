@@ -20,12 +20,12 @@ module _ (w : World) (t a g i : ℕ) (x : M.Slot)
   rest : refusal (on_writing w t a g) ≡ refusal (write_17 w t g ∷ no_place w t g ∷ [])
   rest = past (on_granule w t a g) (write_17 w t g ∷ no_place w t g ∷ []) p.0
 
-  pub written-before : is_some (M.own g x.writes) ≡ true
+  pub written_before : is_some (M.own g x.writes) ≡ true
       → (refusal (on_writing w t a g) ≡ None) × Stands t w.slots i
-  written-before o = (rest ∙ rw (held, o), p.1)
+  written_before o = (rest ∙ rw (held, o), p.1)
 
-  pub fits-before : is_some (M.own g x.writes) ≡ true → write_fits g x.writes ≡ true
-  fits-before o = rw o
+  pub fits_before : is_some (M.own g x.writes) ≡ true → write_fits g x.writes ≡ true
+  fits_before o = rw o
 
   module _ (o : is_some (M.own g x.writes) ≡ false) where
     pub full : 16 ≤ length x.writes → refusal (on_writing w t a g) ≡ Some (13, [])
@@ -44,8 +44,8 @@ module _ (w : World) (t a g i : ℕ) (x : M.Slot)
           let n = lt-leb (w.store.room g) (M.tally (M.other_writer t g) w.slots) h in
           (rest ∙ rw (held, o, lt-leb 16 (length x.writes) l, n), p.1)
 
-      pub fits-now : write_fits g x.writes ≡ true
-      fits-now = rw (o, lt-ltb (length x.writes) 16 l)
+      pub fits_now : write_fits g x.writes ≡ true
+      fits_now = rw (o, lt-ltb (length x.writes) 16 l)
 
 pub write_refused : (w : World) (t a g n : ℕ) (kind : ℕ → Bool) (r : Refused)
     → refusal (on_writing w t a g) ≡ Some r

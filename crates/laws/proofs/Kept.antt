@@ -40,16 +40,16 @@ steady_commit true = record { stamp = λ x. refl; held = λ x h. refl }
 steady_commit false = record { stamp = λ x. refl; held = λ x h. refl }
 
 module _ (w : World) (t u : ℕ) (n : u ≡ t → ⊥) where
-  note-kept : (g : ℕ) → M.held u (C.noting_read t g w).slots ≡ M.held u w.slots
-  note-kept g = held_adjust t u _ (steady_notes _) n w.slots
+  note_kept : (g : ℕ) → M.held u (C.noting_read t g w).slots ≡ M.held u w.slots
+  note_kept g = held_adjust t u _ (steady_notes _) n w.slots
 
   write_kept : (g : ℕ) (c : Content) → M.held u (C.recording t g c w).slots ≡ M.held u w.slots
   write_kept g c = held_adjust t u _ (steady_writes _) n w.slots
 
-  spared-kept : (b : Bool) (g : ℕ)
+  spared_kept : (b : Bool) (g : ℕ)
       → M.held u (cond b (C.noting_read t g w) w).slots ≡ M.held u w.slots
-  spared-kept true g = note-kept g
-  spared-kept false g = refl
+  spared_kept true g = note_kept g
+  spared_kept false g = refl
 
 -- the slots of others after an answered call
 answered_kept : (r : Option Refused) (c : C.Call) (w : World) (t u : ℕ) → caller c ≡ Some t
@@ -58,7 +58,7 @@ answered_kept None C.call_open w t u e n = refl
 answered_kept None (C.call_begin s) w t u e n =
     let q : s ≡ t = cc in rw q (held_place t u n w.slots)
 answered_kept None (C.call_read s a g k) w t u e n =
-    let q : s ≡ t = cc in rw q (note-kept w t u n g)
+    let q : s ≡ t = cc in rw q (note_kept w t u n g)
 answered_kept None (C.call_write s a g c k) w t u e n =
     let q : s ≡ t = cc in rw q (write_kept w t u n g _)
 answered_kept None (C.call_erase s a g) w t u e n =
@@ -73,7 +73,7 @@ answered_kept None (C.call_notice reach) w t u e n = refl
 answered_kept (Some r) C.call_open w t u e n = refl
 answered_kept (Some r) (C.call_begin s) w t u e n = refl
 answered_kept (Some r) (C.call_read s a g k) w t u e n =
-    let q : s ≡ t = cc in rw q (spared-kept w t u n (eqb r.0 15) g)
+    let q : s ≡ t = cc in rw q (spared_kept w t u n (eqb r.0 15) g)
 answered_kept (Some r) (C.call_write s a g c k) w t u e n = refl
 answered_kept (Some r) (C.call_erase s a g) w t u e n = refl
 answered_kept (Some r) (C.call_commit s a) w t u e n = refl

@@ -1,6 +1,7 @@
 // What no call can do, whatever the certifier and the store are: laws of the definitions that the
 // calls' contracts cite.
 #![tactic(auto)]
+
 ghost use Rattle.laws.specs.Keeping.{OthersKept, RefusalsKeep, OnlyAdvanceAppends};
 
 // A call of one transaction leaves the slot of every other as it was; a refusal leaves all as it

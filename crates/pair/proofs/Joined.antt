@@ -73,9 +73,9 @@ module _ (s u : Stored) (g : ℕ) (h : s.archive.count ≤ g)
   seen : (both s.archive u.archive ≡ true) × (g < s.archive.count + u.archive.count)
   seen = second_shown s.archive u.archive g h l
 
-  second-fault : (t : ℕ)
+  second_fault : (t : ℕ)
       → append_fault (paired s u) g t ≡ append_fault u (g - s.archive.count) t
-  second-fault t =
+  second_fault t =
       let b = seen.0 in let k = seen.1 in
       let i = le-ltb g s.archive.count h in
       let m = lt-ltb g (s.archive.count + u.archive.count) k in
@@ -118,11 +118,11 @@ module _ (s u : Stored) (g : ℕ) (h : s.archive.count ≤ g)
   appended : (u' : Stored) (o o' : ℕ → Fault → Type 0) (v : Version)
       (r : Result (Unit {0}) Fault) → Appended u u' o' (g - s.archive.count) v r
       → Appended (paired s u) (paired s u') (joined_origin s.archive u.archive o o') g v r
-  appended u' o o' v (Ok x) p = (second-fault v.stamp ∙ p.0, second-grown u' v p.1)
+  appended u' o o' v (Ok x) p = (second_fault v.stamp ∙ p.0, second-grown u' v p.1)
   appended u' o o' v (Err f) p =
       let i = le-ltb g s.archive.count h in
       let m = lt-ltb g (joined s.archive u.archive).count l in
-      (second-fault v.stamp ∙ p.0, rw (i, m) p.1, ap (λ x. paired s x) p.2)
+      (second_fault v.stamp ∙ p.0, rw (i, m) p.1, ap (λ x. paired s x) p.2)
 
   pub second-appended : (u' : Stored) (o o' : ℕ → Fault → Type 0) (n : ℕ) (v : Version)
       (r : Result (Unit {0}) Fault) → n ≡ s.archive.count → Appended u u' o' (g - n) v r

@@ -1,5 +1,6 @@
 // The pair: two stores as one.
 #![tactic(auto)]
+
 mod halves;
 
 pub use halves::Pair;

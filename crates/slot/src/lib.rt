@@ -1,6 +1,7 @@
 // One transaction's slot, and what a slice of slots tells and becomes. No store and no entry kind
 // occur here, and nothing allocates.
 #![tactic(auto)]
+
 mod conflict;
 mod ops;
 mod plan;

@@ -2,6 +2,7 @@
 use bounded::Bounded;
 use model::{Mark, Phase, Write};
 
+#[derive(Clone, Copy)]
 pub struct Slot {
     pub stamp: u64,
     pub attempt: u64,
@@ -14,5 +15,3 @@ pub struct Slot {
     pub puts: usize,
     pub mark: Mark,
 }
-
-impl Copy for Slot {}

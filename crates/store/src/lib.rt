@@ -1,5 +1,6 @@
 // Archives and version stores, as interfaces that say what their implementations mean.
 #![tactic(auto)]
+
 pub mod archive;
 pub mod query;
 

@@ -1,5 +1,6 @@
 // The bottom store: a table of versions over lent words, two words to a version.
 #![tactic(auto)]
+
 pub mod check;
 pub mod lend;
 pub mod table;

@@ -5,10 +5,10 @@ use Rattle.answer_text.proofs.push.+push_number.Goals as goal
 
 pub returns-then-n-lt10 : goal.returns-then-n-lt10
 returns-then-n-lt10 t c =
-    appends_as _ _ _ _ c.push-byte.result c.push-byte.ensures
+    appends_as _ _ _ _ c.push_byte.result c.push_byte.ensures
     (decimal_digit c.args.n c.if-n-lt10.true)
 
 pub returns : goal.returns
 returns t c =
-    appends_then _ _ _ _ _ _ c.push-byte-2.result c.in-ok-push-number.ensures
-    c.push-byte-2.ensures (decimal_step c.args.n c.if-n-lt10.false (omega arith))
+    appends_then _ _ _ _ _ _ c.push_byte-2.result c.in_ok-push_number.ensures
+    c.push_byte-2.ensures (decimal_step c.args.n c.if-n-lt10.false (omega arith))

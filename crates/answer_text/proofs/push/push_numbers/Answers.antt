@@ -4,15 +4,15 @@ use Rattle.script.specs.Writing.{spaced}
 use Rattle.answer_text.proofs.Appended.{begins_on, joins, spaced_next, appends_err}
 use Rattle.answer_text.proofs.push.push_numbers.Goals as goal
 
-pub returns-in-err-push-spaced : goal.returns-in-err-push-spaced
-returns-in-err-push-spaced c =
+pub returns-in_err-push_spaced : goal.returns-in_err-push_spaced
+returns-in_err-push_spaced c =
     let b =
     begins_on (vec_items c.args.out.now) (vec_items c.loop-n.out)
-    (vec_items c.push-spaced.new.out)
+    (vec_items c.push_spaced.new.out)
     (spaced (take c.loop-n.n-index c.args.numbers.now)) c.loop-n.invariant
-    c.in-err-push-spaced.ensures in
-    appends_err (vec_items c.args.out.now) (vec_items c.push-spaced.new.out)
-    (spaced c.args.numbers.now) c.from-residual.result (search rules) b
+    c.in_err-push_spaced.ensures in
+    appends_err (vec_items c.args.out.now) (vec_items c.push_spaced.new.out)
+    (spaced c.args.numbers.now) c.from_residual.result (search rules) b
 
 pub loop-n-preserved : goal.loop-n-preserved
 loop-n-preserved c =
@@ -20,8 +20,8 @@ loop-n-preserved c =
     let ns = c.args.numbers.now in
     let p =
     joins (vec_items c.args.out.now) (vec_items c.loop-n.out)
-    (vec_items c.push-spaced.new.out) (spaced (take i ns)) (32 ∷ decimal (get_or ns i 0))
-    c.loop-n.invariant c.in-ok-push-spaced.ensures in
+    (vec_items c.push_spaced.new.out) (spaced (take i ns)) (32 ∷ decimal (get_or ns i 0))
+    c.loop-n.invariant c.in_ok-push_spaced.ensures in
     p ∙ ap (λ t. vec_items c.args.out.now ++ t) (sym (spaced_next ns i (omega arith)))
 
 pub returns : goal.returns

@@ -5,7 +5,7 @@ use Rattle.answer_text.proofs.push.push_word.Goals as goal
 
 pub returns : goal.returns
 returns c =
-    appends_on (vec_items c.args.out.now) (vec_items c.push-bytes.new.out)
-    (vec_items c.push-numbers.new.out) c.args.word.now
-    (spaced c.args.numbers.now) c.push-numbers.result
-    c.in-ok-push-bytes.ensures c.push-numbers.ensures
+    appends_on (vec_items c.args.out.now) (vec_items c.push_bytes.new.out)
+    (vec_items c.push_numbers.new.out) c.args.word.now
+    (spaced c.args.numbers.now) c.push_numbers.result
+    c.in_ok-push_bytes.ensures c.push_numbers.ensures

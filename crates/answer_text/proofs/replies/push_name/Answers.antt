@@ -4,9 +4,9 @@ use Rattle.script.specs.Writing.{named}
 use Rattle.answer_text.proofs.Appended.{appends_then}
 use Rattle.answer_text.proofs.replies.push_name.Goals as goal
 
-pub returns-in-ok-push-byte : goal.returns-in-ok-push-byte
-returns-in-ok-push-byte c =
-    appends_then (vec_items c.args.out.now) (vec_items c.push-byte.new.out)
-    (vec_items c.push-bytes.new.out) (32 ∷ []) c.in-Begin.name.now
-    (named (said c.args.event.now)) c.push-bytes.result
-    c.in-ok-push-byte.ensures c.push-bytes.ensures (search rules)
+pub returns-in_ok-push_byte : goal.returns-in_ok-push_byte
+returns-in_ok-push_byte c =
+    appends_then (vec_items c.args.out.now) (vec_items c.push_byte.new.out)
+    (vec_items c.push_bytes.new.out) (32 ∷ []) c.in-Begin.name.now
+    (named (said c.args.event.now)) c.push_bytes.result
+    c.in_ok-push_byte.ensures c.push_bytes.ensures (search rules)

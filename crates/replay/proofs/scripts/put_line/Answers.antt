@@ -5,15 +5,15 @@ use Rattle.replay.proofs.scripts.put_line.Goals as goal
 
 pub returns-in-Some : goal.returns-in-Some
 returns-in-Some g c =
-    let e = c.put-event-outcome.ensures in
+    let e = c.put_event-outcome.ensures in
     record {
       sound = e.sound;
       lent = e.lent;
       put = (
         _,
-        answered (said c.in-Some.event) c.put-event-outcome.result
+        answered (said c.in-Some.event) c.put_event-outcome.result
             (sym c.in-Some.ensures.value) e.put,
-        c.push-answer.ensures,
+        c.push_answer.ensures,
       );
     }
 
@@ -22,5 +22,5 @@ returns-in-None g c =
     record {
       sound = search rules;
       lent = refl;
-      put = (_, unreadable (sym c.in-None.ensures.value), c.push-unreadable.ensures);
+      put = (_, unreadable (sym c.in-None.ensures.value), c.push_unreadable.ensures);
     }

@@ -32,7 +32,7 @@ loop-cut-preserved g c =
             (lines_of c.args.script.now) (lines_of c.loop-cut.rest.now) done.0
             c.loop-cut.certifier c.loop-cut.store c.in-Some.cut.line.now
             (lines_of c.in-Some.cut.rest.now) p.0
-            c.put-line.new.certifier c.put-line.new.store
+            c.put_line.new.certifier c.put_line.new.store
             c.in-Some.ensures.lines done.1 p.1,
         p.2 ∙ (ap (λ xs. xs ++ p.0) done.2
             ∙ append_assoc (vec_items c.args.out.now) done.0 p.0),
@@ -56,7 +56,7 @@ returns-in-Err g c =
             (lines_of c.args.script.now) (lines_of c.loop-cut.rest.now) done.0
             c.loop-cut.certifier c.loop-cut.store c.in-Some.cut.line.now
             (lines_of c.in-Some.cut.rest.now) p.0
-            c.put-line.new.certifier c.put-line.new.store
+            c.put_line.new.certifier c.put_line.new.store
             c.in-Some.ensures.lines done.1 p.1,
         (
           done.0 ++ more.0,
@@ -79,7 +79,7 @@ returns g c =
         front-all σ c.args.certifier.now c.args.store.now
             (lines_of c.args.script.now) (lines_of c.loop-cut.rest.now) done.0
             c.loop-cut.certifier c.loop-cut.store
-            c.in-default.ensures.lines done.1,
+            c.in_default.ensures.lines done.1,
         done.2,
       );
     }

@@ -18,11 +18,11 @@ returns-then-script-eq0 c =
 pub returns : goal.returns
 returns c =
     let n =
-    next c.args.script.now c.cut-at-piece.result.bytes.now c.or-empty.result.now
-    (option_map (λ x. x.now) c.cut-at-piece.result.rest) (search rules)
-    c.cut-at-piece.ensures.bytes c.cut-at-piece.ensures.rest c.or-empty.ensures in
+    next c.args.script.now c.cut_at-piece.result.bytes.now c.or_empty.result.now
+    (option_map (λ x. x.now) c.cut_at-piece.result.rest) (search rules)
+    c.cut_at-piece.ensures.bytes c.cut_at-piece.ensures.rest c.or_empty.ensures in
     record {
-      parts = (c.cut-at-piece.ensures.bytes, n.after);
+      parts = (c.cut_at-piece.ensures.bytes, n.after);
       shorter = n.shorter;
       lines = n.lines;
       joined = joined c.args.script.now;

@@ -8,5 +8,5 @@ loop-byte-preserved c = search (rules, digits_more)
 pub returns : goal.returns
 returns c = search (rules, digits_all)
 
-pub returns-in-err-n : goal.returns-in-err-n
-returns-in-err-n c = search (rules, digits_stop)
+pub returns-in_err-n : goal.returns-in_err-n
+returns-in_err-n c = search (rules, digits_stop)

@@ -5,8 +5,8 @@ use Rattle.script.specs.Reading.{event_of}
 use Rattle.script.proofs.FormatLaw.{format_law}
 use Rattle.script.proofs.parse.event.Goals as goal
 
-pub returns-then-line-gt-MAX-LINE : goal.returns-then-line-gt-MAX-LINE
-returns-then-line-gt-MAX-LINE c =
+pub returns-then-line-gt-MAX_LINE : goal.returns-then-line-gt-MAX_LINE
+returns-then-line-gt-MAX_LINE c =
     record {
       value = search rules;
       format = format_law c.args.line.now None (search rules);

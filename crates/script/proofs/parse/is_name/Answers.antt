@@ -5,8 +5,8 @@ use Rattle.script.proofs.parse.is_name.Goals as goal
 pub loop-byte-preserved : goal.loop-byte-preserved
 loop-byte-preserved c = search (rules, letters_more)
 
-pub returns-then-not-is-alphanumeric : goal.returns-then-not-is-alphanumeric
-returns-then-not-is-alphanumeric c = search (rules, letters_stop)
+pub returns-then-not-is_alphanumeric : goal.returns-then-not-is_alphanumeric
+returns-then-not-is_alphanumeric c = search (rules, letters_stop)
 
 pub returns : goal.returns
 returns c = search (rules, letters_all)

@@ -15,17 +15,17 @@ returns-then-count-eq4 c =
     let h : gathered [] (words_left (option_map (λ x. x.now) c.args.s)) ≡ None = search rules in
     sym (ap (λ o. and_then o (with_numbers c.args.kind)) h)
 
-pub returns-in-err-value : goal.returns-in-err-value
-returns-in-err-value c =
+pub returns-in_err-value : goal.returns-in_err-value
+returns-in_err-value c =
     let ns = take c.loop-left.count c.loop-left.numbers in
     let l : length ns ≡ c.loop-left.count = length-take-le _ _ (omega arith) in
-    let v = c.in-err-value.ensures.value in
+    let v = c.in_err-value.ensures.value in
     let g =
-    gathered_stop ns c.in-Some.words.now c.cut-at-word.result.bytes.now (omega arith)
-    c.cut-at-word.ensures.bytes v in
+    gathered_stop ns c.in-Some.words.now c.cut_at-word.result.bytes.now (omega arith)
+    c.cut_at-word.ensures.bytes v in
     let h : gathered [] (words_left (option_map (λ x. x.now) c.args.s)) ≡ None = search rules in
     let e = ap (λ o. and_then o (with_numbers c.args.kind)) h in
-    ap (option_map said) c.from-residual.ensures ∙ sym e
+    ap (option_map said) c.from_residual.ensures ∙ sym e
 
 pub loop-left-smaller : goal.loop-left-smaller
 loop-left-smaller c = let e = others_less 32 c.in-Some.words.now in search rules
@@ -34,15 +34,15 @@ pub loop-left-preserved : goal.loop-left-preserved
 loop-left-preserved c =
     let ns = take c.loop-left.count c.loop-left.numbers in
     let l : length ns ≡ c.loop-left.count = length-take-le _ _ (omega arith) in
-    let v = c.in-ok-value.ensures.value in
+    let v = c.in_ok-value.ensures.value in
     let t =
-    take_more_set c.loop-left.numbers c.loop-left.count c.in-ok-value.value
+    take_more_set c.loop-left.numbers c.loop-left.count c.in_ok-value.value
     (omega arith) in
     let m : c.loop-left.count + 1 ≤ 4 = omega arith in
     let g =
-    gathered_more ns c.in-Some.words.now c.cut-at-word.result.bytes.now _
-    c.in-ok-value.value (omega arith) c.cut-at-word.ensures.bytes
-    c.cut-at-word.ensures.rest v in
+    gathered_more ns c.in-Some.words.now c.cut_at-word.result.bytes.now _
+    c.in_ok-value.value (omega arith) c.cut_at-word.ensures.bytes
+    c.cut_at-word.ensures.rest v in
     search rules
 
 pub returns : goal.returns

@@ -13,8 +13,8 @@ returns-in-Some c =
     one_changed slot_of f xs c.in-Some.i c.index-slots-i.result c.change.new.self
     M.free_slot (search rules) ∙ sym (s.changes f)
 
-pub returns-in-default : goal.returns-in-default
-returns-in-default c =
+pub returns-in_default : goal.returns-in_default
+returns-in_default c =
     let xs = slots_of c.args.slots.now in
     sym (adjust_none c.args.stamp (change_of c.args.change) xs
     (not_held c.args.stamp xs (search rules)))

@@ -11,5 +11,5 @@ returns-in-Ok g c =
 pub returns-in-Missing : goal.returns-in-Missing
 returns-in-Missing g c =
     let a = g.S.Archive.means c.args.archive.now in
-    told_none a c.args.granule c.saturating-sub-k.result
+    told_none a c.args.granule c.saturating_sub-k.result
     (search rules) (search rules) (search rules)

@@ -4,13 +4,13 @@ use Rattle.table.proofs.Pairs.{row_fits}
 use Rattle.table.proofs.Laws.{checked, accepted, refused_at}
 use Rattle.table.proofs.check.check_words.Goals as goal
 
-pub check-granule-requires : goal.check-granule-requires
-check-granule-requires c =
+pub check_granule-requires : goal.check_granule-requires
+check_granule-requires c =
     omega (arith, row_fits c.loop-g.g c.args.granules c.args.depth (omega arith))
 
 pub loop-g-preserved : goal.loop-g-preserved
 loop-g-preserved c =
-    let inv = c.loop-g.invariant in let e = c.in-default.ensures in rw (add-one, inv) (sym e)
+    let inv = c.loop-g.invariant in let e = c.in_default.ensures in rw (add-one, inv) (sym e)
 
 pub returns-in-Some : goal.returns-in-Some
 returns-in-Some c =

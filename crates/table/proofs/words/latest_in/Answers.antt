@@ -5,8 +5,8 @@ use Rattle.table.specs.Words.{versions_in}
 use Rattle.table.proofs.Pairs.{row_fits}
 use Rattle.table.proofs.words.latest_in.Goals as goal
 
-pub last-stamp-requires : goal.last-stamp-requires
-last-stamp-requires c =
+pub last_stamp-requires : goal.last_stamp-requires
+last_stamp-requires c =
     omega (arith, row_fits c.loop-g.g c.args.granules c.args.depth (omega arith))
 
 pub loop-g-preserved : goal.loop-g-preserved

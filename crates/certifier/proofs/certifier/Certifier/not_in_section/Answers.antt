@@ -3,7 +3,7 @@ use Rattle.model.specs.Numbers.{phase_number}
 use Rattle.model.specs.Refusals.{running_or_waiting}
 use Rattle.slot.specs.Means.{slot_of}
 use Rattle.certifier.specs.Beside.{slots_in}
-use Rattle.certifier.proofs.Present.{read_slot, in_phase, out-of-phase, not_waiting}
+use Rattle.certifier.proofs.Present.{read_slot, in_phase, out_of_phase, not_waiting}
 use Rattle.certifier.proofs.certifier.Certifier.not_in_section.Goals as goal
 
 pub returns-in-Running : goal.returns-in-Running
@@ -22,16 +22,16 @@ returns-in-Running c =
           c.in-Ok.i x running_or_waiting c.in-Ok.ensures.ruled q n;
     }
 
-pub returns-in-default : goal.returns-in-default
-returns-in-default c =
+pub returns-in_default : goal.returns-in_default
+returns-in_default c =
     let ys = c.args.self.now.slots in
     let y = c.index-self-i.result in
     let q = read_slot ys c.in-Ok.i y (search rules) in
     record {
       within = tt;
       arising = tt;
-      ruled = out-of-phase (slots_in c.args.self.now) c.args.stamp c.args.attempt
+      ruled = out_of_phase (slots_in c.args.self.now) c.args.stamp c.args.attempt
           c.in-Ok.i (slot_of (get_or ys c.in-Ok.i y)) running_or_waiting
           c.in-Ok.ensures.ruled q
-          (not_waiting _ c.in-default.not-Running c.in-default.not-Waiting);
+          (not_waiting _ c.in_default.not-Running c.in_default.not-Waiting);
     }

@@ -2,23 +2,23 @@ use Rattle.std.proofs.Common.{◌≡◌, length, is_some, sym, refl, ap, ◌∙�
 use Rattle.model.specs.Slots.{own}
 use Rattle.certifier.specs.Beside.{beside, slot_at}
 use Rattle.certifier.proofs.Present.{read_slot}
-use Rattle.certifier.proofs.Writing.{written-before, fits-before, full, crowded, room, fits-now}
+use Rattle.certifier.proofs.Writing.{written_before, fits_before, full, crowded, room, fits_now}
 use Rattle.certifier.proofs.certifier.Certifier.on_writing.Goals as goal
 
-pub returns-then-is-some : goal.returns-then-is-some
-returns-then-is-some g c =
+pub returns-then-is_some : goal.returns-then-is_some
+returns-then-is_some g c =
     let s = c.args.store.now in
     let w = beside c.args.self.now (g.S.Archive.means s) (g.S.Store.room s) in
     let i = c.in-Ok.i in
     let q = read_slot c.args.self.now.slots i c.index-self-i.result (search rules) in
-    let o = sym (c.if-is-some.ensures ∙ (ap is_some c.own.ensures
+    let o = sym (c.if-is_some.ensures ∙ (ap is_some c.own.ensures
     ∙ ap (λ z. is_some (own c.args.granule z.writes)) q)) in
     record {
       within = c.in-Ok.ensures.within;
       arising = tt;
-      ruled = written-before w c.args.stamp c.args.attempt c.args.granule i
+      ruled = written_before w c.args.stamp c.args.attempt c.args.granule i
           (slot_at c.args.self.now i) c.in-Ok.ensures.ruled refl o;
-      fits = fits-before w c.args.stamp c.args.attempt c.args.granule i
+      fits = fits_before w c.args.stamp c.args.attempt c.args.granule i
           (slot_at c.args.self.now i) c.in-Ok.ensures.ruled refl o;
     }
 
@@ -28,7 +28,7 @@ returns-then-len-ge16 g c =
     let w = beside c.args.self.now (g.S.Archive.means s) (g.S.Store.room s) in
     let i = c.in-Ok.i in
     let q = read_slot c.args.self.now.slots i c.index-self-i.result (search rules) in
-    let o = sym (c.if-is-some.ensures ∙ (ap is_some c.own.ensures
+    let o = sym (c.if-is_some.ensures ∙ (ap is_some c.own.ensures
     ∙ ap (λ z. is_some (own c.args.granule z.writes)) q)) in
     let n = c.len.ensures.len ∙ ap (λ z. length z.writes) q in
     record {
@@ -40,13 +40,13 @@ returns-then-len-ge16 g c =
           (omega (arith, n));
     }
 
-pub returns-then-free-places-others : goal.returns-then-free-places-others
-returns-then-free-places-others g c =
+pub returns-then-free_places-others : goal.returns-then-free_places-others
+returns-then-free_places-others g c =
     let s = c.args.store.now in
     let w = beside c.args.self.now (g.S.Archive.means s) (g.S.Store.room s) in
     let i = c.in-Ok.i in
     let q = read_slot c.args.self.now.slots i c.index-self-i.result (search rules) in
-    let o = sym (c.if-is-some.ensures ∙ (ap is_some c.own.ensures
+    let o = sym (c.if-is_some.ensures ∙ (ap is_some c.own.ensures
     ∙ ap (λ z. is_some (own c.args.granule z.writes)) q)) in
     let n = c.len.ensures.len ∙ ap (λ z. length z.writes) q in
     record {
@@ -64,7 +64,7 @@ returns g c =
     let w = beside c.args.self.now (g.S.Archive.means s) (g.S.Store.room s) in
     let i = c.in-Ok.i in
     let q = read_slot c.args.self.now.slots i c.index-self-i.result (search rules) in
-    let o = sym (c.if-is-some.ensures ∙ (ap is_some c.own.ensures
+    let o = sym (c.if-is_some.ensures ∙ (ap is_some c.own.ensures
     ∙ ap (λ z. is_some (own c.args.granule z.writes)) q)) in
     let n = c.len.ensures.len ∙ ap (λ z. length z.writes) q in
     record {
@@ -73,7 +73,7 @@ returns g c =
       ruled = room w c.args.stamp c.args.attempt c.args.granule i
           (slot_at c.args.self.now i) c.in-Ok.ensures.ruled refl o
           (omega (arith, n)) (search rules);
-      fits = fits-now w c.args.stamp c.args.attempt c.args.granule i
+      fits = fits_now w c.args.stamp c.args.attempt c.args.granule i
           (slot_at c.args.self.now i) c.in-Ok.ensures.ruled refl o
           (omega (arith, n));
     }

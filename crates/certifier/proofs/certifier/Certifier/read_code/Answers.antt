@@ -4,7 +4,7 @@ use Rattle.slot.specs.Means.{slot_of}
 use Rattle.slot.specs.Changes.{noted}
 use Rattle.certifier.specs.Beside.{beside, slot_at}
 use Rattle.certifier.proofs.Present.{read_slot}
-use Rattle.certifier.proofs.Reading.{own_read, not-reached, too_many, told, kept, set_world}
+use Rattle.certifier.proofs.Reading.{own_read, not_reached, too_many, told, kept, set_world}
 use Rattle.certifier.proofs.certifier.Certifier.read_code.Goals as goal
 
 pub returns-in-Some : goal.returns-in-Some
@@ -18,7 +18,7 @@ returns-in-Some g c =
     let r = c.in-Ok.ensures.ruled in
     let e = own_read w c.args.stamp c.args.attempt c.args.granule i
     (slot_of (get_or ys i y)) r.0 r.1 q c.in-Some.content c.in-Some.ensures in
-    record { arising = tt; read = (e.0, c.code-of.ensures ∙ e.1, e.2) }
+    record { arising = tt; read = (e.0, c.code_of.ensures ∙ e.1, e.2) }
 
 pub returns-in-Err-newest : goal.returns-in-Err-newest
 returns-in-Err-newest g c =
@@ -29,20 +29,20 @@ returns-in-Err-newest g c =
     let i = c.in-Ok.i in
     let x = slot_at c.args.self.now i in
     let q = read_slot c.args.self.now.slots i c.index-self-i.result (search rules) in
-    let o = c.in-default.ensures ∙ ap (λ z. own c.args.granule z.writes) q in
+    let o = c.in_default.ensures ∙ ap (λ z. own c.args.granule z.writes) q in
     let r = c.in-Ok.ensures.ruled in
     let e = c.in-Err-newest.ensures in
     record {
       arising = e.1;
       read = (
-        not-reached w c.args.stamp c.args.attempt c.args.granule i x r.0 r.1
+        not_reached w c.args.stamp c.args.attempt c.args.granule i x r.0 r.1
             refl o c.in-Err-newest.fault.cause e.0,
         refl,
       );
     }
 
-pub returns-then-not-note-at : goal.returns-then-not-note-at
-returns-then-not-note-at g c =
+pub returns-then-not-note_at : goal.returns-then-not-note_at
+returns-then-not-note_at g c =
     let s = c.args.store.now in
     let a = g.S.Archive.means s in
     let room = g.S.Store.room s in
@@ -50,14 +50,14 @@ returns-then-not-note-at g c =
     let i = c.in-Ok.i in
     let x = slot_at c.args.self.now i in
     let q = read_slot c.args.self.now.slots i c.index-self-i.result (search rules) in
-    let o = c.in-default.ensures ∙ ap (λ z. own c.args.granule z.writes) q in
+    let o = c.in_default.ensures ∙ ap (λ z. own c.args.granule z.writes) q in
     let r = c.in-Ok.ensures.ruled in
     let e = c.in-Ok-newest.ensures in
-    let n = c.if-not-note-at.ensures in
+    let n = c.if-not-note_at.ensures in
     let t = c.args.stamp in
     let k = kept w t c.args.attempt c.args.granule i x r.0 r.1 refl
     (sym n.took) in
-    let z = set_world c.args.self.now c.note-at.new.self a room i
+    let z = set_world c.args.self.now c.note_at.new.self a room i
     (noted c.args.granule x) n.after in
     record {
       arising = tt;
@@ -77,11 +77,11 @@ returns g c =
     let i = c.in-Ok.i in
     let x = slot_at c.args.self.now i in
     let q = read_slot c.args.self.now.slots i c.index-self-i.result (search rules) in
-    let o = c.in-default.ensures ∙ ap (λ z. own c.args.granule z.writes) q in
+    let o = c.in_default.ensures ∙ ap (λ z. own c.args.granule z.writes) q in
     let r = c.in-Ok.ensures.ruled in
     let e = c.in-Ok-newest.ensures in
-    let n = c.if-not-note-at.ensures in
-    let z = set_world c.args.self.now c.note-at.new.self a room i
+    let n = c.if-not-note_at.ensures in
+    let z = set_world c.args.self.now c.note_at.new.self a room i
     (noted c.args.granule x) n.after in
     let k = told w c.args.stamp c.args.attempt c.args.granule i x r.0 r.1 refl o
     e.0 (sym n.took) c.in-Ok-newest.version e.1 in

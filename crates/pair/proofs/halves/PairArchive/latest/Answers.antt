@@ -6,5 +6,5 @@ pub returns : goal.returns
 returns g c =
     let s = c.args.self.now in
     let e = latest_both (g.L.Archive.means s.first) (g.R.Archive.means s.second)
-    (sym c.shows-both.ensures ∙ c.if-not-shows-both.false) in
+    (sym c.shows_both.ensures ∙ c.if-not-shows_both.false) in
     omega (arith, e)

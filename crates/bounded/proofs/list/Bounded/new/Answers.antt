@@ -1,6 +1,0 @@
-use Rattle.std.proofs.Common.{arith}
-use Rattle.std.proofs.lemmas.List.{length-replicate}
-use Rattle.bounded.proofs.list.Bounded.new.Goals as goal
-
-pub invariant-of-result : goal.invariant-of-result
-invariant-of-result g c = (length-replicate _ _, (omega arith, tt))
