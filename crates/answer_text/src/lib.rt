@@ -1,5 +1,6 @@
 // Writes the answers to a script's events as lines of text.
 #![tactic(auto)]
+
 mod answers;
 mod push;
 mod replies;

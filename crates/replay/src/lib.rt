@@ -1,5 +1,6 @@
 // Scripts put to a certifier beside any version store: events to calls, answers to lines.
 #![tactic(auto)]
+
 mod events;
 mod scripts;
 

@@ -20,8 +20,8 @@ returns-in-Err g c =
     record {
       arising = e.arising;
       does = read_at w w' c.args.stamp c.args.attempt c.args.granule
-          c.of_kind.result
-          _ c.of_kind.ensures e.does;
+          c.of-kind.result
+          _ c.of-kind.ensures e.does;
     }
 
 pub returns-in-Some : goal.returns-in-Some
@@ -41,8 +41,8 @@ returns-in-Some g c =
       arising = tt;
       does = answered_as w w' k _ _ q
           (read_at w w' c.args.stamp c.args.attempt c.args.granule
-          c.of_kind.result
-          _ c.of_kind.ensures e.does);
+          c.of-kind.result
+          _ c.of-kind.ensures e.does);
     }
 
 pub returns-in-None : goal.returns-in-None
@@ -60,6 +60,6 @@ returns-in-None g c =
       arising = tt;
       does = answered_as w w' k _ _ (ap f c.in-None.is)
           (read_at w w' c.args.stamp c.args.attempt c.args.granule
-          c.of_kind.result
-          _ c.of_kind.ensures e.does);
+          c.of-kind.result
+          _ c.of-kind.ensures e.does);
     }

@@ -13,7 +13,7 @@ returns-in-Ok g c =
       arising = tt;
       does = write-at (beside c.args.certifier.now a room)
           (beside c.write.new.self a room) c.args.stamp c.args.attempt
-          c.args.granule c.of_kind.result _ c.of_kind.ensures c.args.code
+          c.args.granule c.of-kind.result _ c.of-kind.ensures c.args.code
           e.does;
     }
 
@@ -27,6 +27,6 @@ returns-in-Err g c =
       arising = e.arising;
       does = write-at (beside c.args.certifier.now a room)
           (beside c.write.new.self a room) c.args.stamp c.args.attempt
-          c.args.granule c.of_kind.result _ c.of_kind.ensures c.args.code
+          c.args.granule c.of-kind.result _ c.of-kind.ensures c.args.code
           e.does;
     }
