@@ -1,6 +1,7 @@
 // Reads a script from standard input, puts it to a certifier beside an empty roster, and writes
 // the answers. A refused line is an answer like any other, so the status is 0 then too.
 #![tactic(auto)]
+
 use certifier::Certifier;
 use link::Link;
 use pair::Pair;

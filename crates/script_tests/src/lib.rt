@@ -1,4 +1,5 @@
 // Tests of scripts and of answer texts.
 #![tactic(auto)]
+
 #[cfg(test)]
 mod tests;

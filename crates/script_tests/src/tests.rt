@@ -219,7 +219,7 @@ fn accepted(rt: HostRuntime) -> Result<(), Fail> {
     answers(&mut out, &cases)?;
     let expected = b"o ok 16 0\nb ok 1 P3\nr ok none\nr ok 41\nw ok\ne ok\nc ok wait\nc ok sect\n\
         k ok\nn ok\nq ok 5 1 0 0\n";
-    assert!(rt; out.as_slice() == expected);
+    assert!(rt; out.as_slice() == expected.as_slice());
     Ok(())
 }
 
@@ -241,7 +241,7 @@ fn steps(rt: HostRuntime) -> Result<(), Fail> {
         answer(&mut out, b"s", Ok(Reply::Stepped(step)))?;
     }
     let expected = b"s ok put 2\ns ok mark\ns ok again 8 2\ns ok pass 8\ns ok done 5\ns ok idle\n";
-    assert!(rt; out.as_slice() == expected);
+    assert!(rt; out.as_slice() == expected.as_slice());
     Ok(())
 }
 
@@ -271,6 +271,6 @@ fn refused(rt: HostRuntime) -> Result<(), Fail> {
     push_too_long(&mut out)?;
     let expected = b"r no 8 2\nb no 3 17\nw no 14\nr no 11 9 22 3 1\nr no 15 7\nk no 9 3\n\
         ? no 16\n? no 17\n";
-    assert!(rt; out.as_slice() == expected);
+    assert!(rt; out.as_slice() == expected.as_slice());
     Ok(())
 }

@@ -1,6 +1,7 @@
 // Stores put to use: what every store does with a version, and tests on tables, pairs, links and
 // piles of them.
 #![tactic(auto)]
+
 pub mod append;
 #[cfg(test)]
 mod damaged;
