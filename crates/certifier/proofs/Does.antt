@@ -1,5 +1,5 @@
 -- From the lines of the table, and from what has been changed, to what a call does.
-use Rattle.std.proofs.Common.{◌≡◌, ℕ, ◌^◌, ◌<◌, ◌≤◌, Bool, true, false, cond, List, [], ◌∷◌, ◌++◌, set, Some, None, Option, sym, refl, ap, ◌∙◌, arith}
+use Rattle.std.proofs.Common.{◌≡◌, ℕ, ◌^◌, ◌<◌, ◌≤◌, true, [], set, Some, None, sym, refl, ap, arith}
 use Rattle.std.proofs.lemmas.Bool.Decides.{nat_tests}
 use Rattle.model.specs.declared.phase.Phase.{Phase}
 use Rattle.model.specs.declared.phase.Phase.TheVariants as P
@@ -9,7 +9,7 @@ use Rattle.model.specs.Numbers.{phase_number}
 use Rattle.model.specs.Slots as M
 use Rattle.model.specs.Worlds.{World, world}
 use Rattle.model.specs.Refusals.{Refused, refusal}
-use Rattle.model.specs.Calls.{Call, Answer, Does, accepted, refused, rules, spared, after, reply}
+use Rattle.model.specs.Calls.{Call, Does, accepted, refused, rules, spared, after, reply}
 use Rattle.model.specs.Calls.{call_begin, phase_of}
 use Rattle.slot.specs.Changes.{first_from}
 use Rattle.slot.proofs.Places.{vacant, all_held}

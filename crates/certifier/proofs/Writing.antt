@@ -1,11 +1,11 @@
 -- The lines of the table for a write or an erasure.
-use Rattle.std.proofs.Common.{◌≡◌, ℕ, ◌<◌, ◌≤◌, Bool, true, false, cond, not, ◌||◌, ltb, leb, List, [], ◌∷◌, ◌++◌, length, get_or, set, is_some, Some, None, Option, sym, refl, ap, ◌∙◌}
+use Rattle.std.proofs.Common.{◌≡◌, ℕ, ◌<◌, ◌≤◌, Bool, true, false, [], ◌∷◌, length, get_or, is_some, Some, None, sym, refl, ap, ◌∙◌}
 use Rattle.std.proofs.lemmas.Bool.{lt-ltb, le-leb, lt-leb}
 use Rattle.model.specs.Slots as M
 use Rattle.model.specs.Worlds.{World}
 use Rattle.model.specs.Refusals.{Refused, refusal, on_granule, on_writing, write_17, no_place}
 use Rattle.model.specs.Refusals.{foreign_code}
-use Rattle.model.specs.Calls.{Does, call_write, refused, rules}
+use Rattle.model.specs.Calls.{Does, call_write, refused}
 use Rattle.slot.specs.Means.{Stands}
 use Rattle.slot.specs.Changes.{write_fits}
 use Rattle.certifier.proofs.Rules.{past, stop}

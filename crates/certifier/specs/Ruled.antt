@@ -1,5 +1,5 @@
 -- The parts of a call: a part is refused by the first of its lines of the table that applies.
-use Rattle.std.specs.Prelude.{◌≡◌, ℕ, List, [], ◌∷◌, Some, None, Ok, Err, Option, Result}
+use Rattle.std.specs.Prelude.{◌≡◌, ℕ, List, Some, None, Ok, Err, Option, Result}
 use Rattle.model.specs.declared.answer.Refusal.{Refusal}
 use Rattle.model.specs.Numbers.{refusal_number, returned}
 use Rattle.model.specs.Slots as M

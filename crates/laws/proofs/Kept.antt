@@ -1,11 +1,11 @@
 -- The proofs: a change of one slot leaves the search for another stamp alone.
-use Rattle.std.proofs.Common.{◌≡◌, ℕ, Bool, true, false, cond, not, ◌&&◌, eqb, List, [], ◌∷◌, ◌++◌, Some, None, Option, sym, refl, ap, ◌∙◌, arith}
+use Rattle.std.proofs.Common.{◌≡◌, ℕ, Bool, true, false, cond, eqb, List, [], ◌∷◌, Some, None, Option, refl, arith}
 use Rattle.std.proofs.lemmas.Bool.{ne_eqb}
 use Rattle.std.proofs.lemmas.Bool.Decides.{nat_tests}
 use Rattle.model.specs.declared.version.Content.{Content}
 use Rattle.model.specs.declared.version.Write.{Write}
 use Rattle.model.specs.Slots as M
-use Rattle.model.specs.Worlds.{World, slot_with, older}
+use Rattle.model.specs.Worlds.{World, older}
 use Rattle.model.specs.Refusals.{Refused, refusal}
 use Rattle.model.specs.Calls as C
 use Rattle.laws.specs.Keeping.{caller, OthersKept, RefusalsKeep, OnlyAdvanceAppends}

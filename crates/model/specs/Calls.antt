@@ -1,5 +1,5 @@
 -- The calls: what each answers, and what certifier and store then are.
-use Rattle.std.specs.Prelude.{◌≡◌, ℕ, Bool, true, false, cond, List, [], ◌∷◌, ◌++◌, length, Some, None, Ok, Err, Option, Result, ◌==◌}
+use Rattle.std.specs.Prelude.{◌≡◌, ℕ, Bool, true, cond, List, [], ◌∷◌, ◌++◌, length, Some, None, Ok, Err, Option, Result, ◌==◌}
 use Rattle.model.specs.declared.version.Content.{Content}
 use Rattle.model.specs.declared.version.Content.TheVariants.{Entry, Absence}
 use Rattle.model.specs.declared.fault.Fault.{Fault}
@@ -11,7 +11,7 @@ use Rattle.model.specs.declared.answer.Reply.{Reply}
 use Rattle.model.specs.declared.answer.Reply.TheVariants as Y
 use Rattle.model.specs.declared.answer.Refusal.{Refusal}
 use Rattle.model.specs.declared.answer.Refusal.TheVariants as R
-use Rattle.model.specs.Numbers.{refusal_number, returned, phase_number}
+use Rattle.model.specs.Numbers.{refusal_number, returned}
 use Rattle.model.specs.Archives.{latest_of}
 use Rattle.model.specs.Slots.{Slot, new_slot, free_slot, with_notes, with_writes, in_phase}
 use Rattle.model.specs.Slots.{in_section, set_own, noted_read, adjust, place, woken}

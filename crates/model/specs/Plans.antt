@@ -1,5 +1,5 @@
 -- The steps of an advance: what is done next, and what then stands.
-use Rattle.std.specs.Prelude.{ℕ, zero, suc, Bool, true, false, cond, List, [], ◌∷◌, is_some, Some, None, Option, ◌==◌}
+use Rattle.std.specs.Prelude.{ℕ, zero, suc, cond, List, [], ◌∷◌, is_some, Some, None, Option, ◌==◌}
 use Rattle.model.specs.declared.version.Write.{Write}
 use Rattle.model.specs.declared.phase.Mark.TheVariants.{Unmarked, Checked}
 use Rattle.model.specs.declared.fault.Cause.{Cause}

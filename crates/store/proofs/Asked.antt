@@ -1,9 +1,8 @@
 -- From what an archive says of version k to what it says of the newest.
-use Rattle.std.proofs.Common.{◌≡◌, ℕ, zero, suc, ◌+◌, ◌-◌, ◌<◌, ◌≤◌, Bool, true, false, cond, ltb, List, [], ◌∷◌, length, get_or, Some, None, Option, sym, refl, ap, ◌∙◌, arith}
+use Rattle.std.proofs.Common.{◌≡◌, ℕ, zero, suc, ◌+◌, ◌-◌, ◌<◌, ◌≤◌, List, [], ◌∷◌, length, get_or, Some, None, sym, refl, ap, ◌∙◌, arith}
 use Rattle.std.proofs.lemmas.Bool.Decides.{nat_tests}
 use Rattle.model.specs.declared.version.Version.{Version}
-use Rattle.model.specs.declared.fault.Cause.{Cause}
-use Rattle.model.specs.declared.fault.Cause.TheVariants.{Missing, OutOfReach}
+use Rattle.model.specs.declared.fault.Cause.TheVariants.{Missing}
 use Rattle.model.specs.Archives.{Archived, granule_fault, question_fault, newest}
 
 newest_at : (vs : List Version) (k : ℕ) (d : Version) → length vs ≡ k + 1

@@ -1,4 +1,4 @@
-use Rattle.std.proofs.Common.{◌≡◌, ℕ, Some, Option, sym, ap, ◌∙◌, rules}
+use Rattle.std.proofs.Common.{ℕ, Some, Option, sym, ap, ◌∙◌}
 use Rattle.std.specs.Option.{option_map}
 use Rattle.kind.specs.declared.roster.RosterEntry.{RosterEntry}
 use Rattle.kind.specs.Roster.{roster_code}

@@ -1,4 +1,3 @@
-use Rattle.std.proofs.Common.{rules}
 use Rattle.certifier.specs.Beside.{beside}
 use Rattle.replay.proofs.OfKind.{write-at}
 use Rattle.replay.proofs.events.write_code.Goals as goal

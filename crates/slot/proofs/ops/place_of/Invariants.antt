@@ -1,4 +1,4 @@
-use Rattle.std.proofs.Common.{◌≡◌, map, drop}
+use Rattle.std.proofs.Common.{◌≡◌, drop}
 use Rattle.slot.specs.Changes.{first_from, is_of, place_of}
 use Rattle.slot.proofs.ops.place_of.Given as goal
 

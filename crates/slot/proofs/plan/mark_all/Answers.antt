@@ -1,5 +1,4 @@
 use Rattle.std.proofs.Common.{rules}
-use Rattle.model.specs.declared.phase.Mark.TheVariants.{Unmarked}
 use Rattle.model.specs.Slots as M
 use Rattle.slot.specs.Means.{slots_of}
 use Rattle.slot.proofs.Loops.{each_more, each_end, each_map}

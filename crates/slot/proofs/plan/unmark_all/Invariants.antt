@@ -1,7 +1,7 @@
 use Rattle.std.proofs.Common.{◌≡◌, ◌++◌, map, take, drop}
 use Rattle.model.specs.declared.phase.Mark.TheVariants.{Unmarked}
 use Rattle.model.specs.Slots as M
-use Rattle.slot.specs.Means.{slot_of, slots_of}
+use Rattle.slot.specs.Means.{slots_of}
 use Rattle.slot.proofs.plan.unmark_all.Given as goal
 
 abbrev pub invariant-loop-slot : goal.invariant-loop-slot

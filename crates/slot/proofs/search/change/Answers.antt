@@ -1,4 +1,4 @@
-use Rattle.std.proofs.Common.{◌≡◌, sym, ◌∙◌, rules}
+use Rattle.std.proofs.Common.{sym, ◌∙◌, rules}
 use Rattle.model.specs.Slots as M
 use Rattle.slot.specs.Means.{slot_of, slots_of}
 use Rattle.slot.specs.Changes.{change_of}

@@ -1,4 +1,4 @@
-use Rattle.std.proofs.Common.{refl, rules}
+use Rattle.std.proofs.Common.{refl}
 use Rattle.model.specs.Slots as M
 use Rattle.slot.specs.Means.{slot_of}
 use Rattle.slot.proofs.Places.{one_changed}

@@ -1,4 +1,4 @@
-use Rattle.std.proofs.Common.{◌≡◌, length, is_some, sym, refl, ap, ◌∙◌, arith, rules}
+use Rattle.std.proofs.Common.{length, is_some, sym, refl, ap, ◌∙◌, arith, rules}
 use Rattle.model.specs.Slots.{own}
 use Rattle.certifier.specs.Beside.{beside, slot_at}
 use Rattle.certifier.proofs.Present.{read_slot}

@@ -1,4 +1,4 @@
-use Rattle.std.proofs.Common.{is_some, rules}
+use Rattle.std.proofs.Common.{is_some}
 use Rattle.certifier.specs.Beside.{beside}
 use Rattle.certifier.proofs.Reading.{read_refused}
 use Rattle.certifier.proofs.certifier.Certifier.read.Goals as goal

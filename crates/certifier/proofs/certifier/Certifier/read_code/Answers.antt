@@ -1,4 +1,4 @@
-use Rattle.std.proofs.Common.{◌≡◌, get_or, sym, refl, ap, ◌∙◌, rules}
+use Rattle.std.proofs.Common.{get_or, sym, refl, ap, ◌∙◌, rules}
 use Rattle.model.specs.Slots.{own}
 use Rattle.slot.specs.Means.{slot_of}
 use Rattle.slot.specs.Changes.{noted}

@@ -1,4 +1,4 @@
-use Rattle.std.proofs.Common.{◌≡◌, get_or, ap, ◌∙◌, rules}
+use Rattle.std.proofs.Common.{get_or, ap, rules}
 use Rattle.model.specs.Calls.{status_of}
 use Rattle.certifier.proofs.Present.{read_slot}
 use Rattle.certifier.proofs.Does.{phase_again}
