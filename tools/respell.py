@@ -11,21 +11,20 @@ import glob
 import re
 import sys
 
-DECLARED = re.compile(r"^(?:abbrev |unfoldable )*(?:pub )?(?:(record|data) )?([^ :(=]+)(?: :| \(|$)")
-MEMBER = re.compile(r"^  (?:pub )?([^ :(=]+) : ")
+DECLARED = re.compile(r"^(?:abbrev |unfoldable )*(?:pub )?(?:(record|data) )?([^ :({=]+)(?: :| [({]|$)")
+MEMBER = re.compile(r"^ +(?:pub )?([^ :(=]+) : ")
 
 
 def declared(path):
-    """The names that a file declares: of definitions and lemmas, of fields and constructors."""
-    inside = False
+    """The names that a file declares: of definitions and lemmas, of fields and constructors, and
+    of lemmas that stand indented under shared arguments."""
     for line in open(path, encoding="utf-8"):
         if line.startswith(("--", "use ", "pub mod", "mod ", "unfolding ")):
             continue
         if m := DECLARED.match(line):
-            inside = m.group(1) is not None
-            if inside or " : " in line or line.rstrip().endswith(" :"):
+            if m.group(1) or " : " in line or line.rstrip().endswith(" :"):
                 yield m.group(2)
-        elif inside and (m := MEMBER.match(line)):
+        elif m := MEMBER.match(line):
             yield m.group(1)
 
 

@@ -1,5 +1,6 @@
 // What can be done with it. Nothing here allocates, and nothing is asked of the caller.
-ghost use Rattle.std.specs.Prelude.{◌≡◌, ◌<◌, [], ◌∷◌, ◌++◌, length, if◌then◌else◌, nat_lt, slice_set};
+ghost use Rattle.std.specs.Prelude.{◌≡◌, ◌<◌, [], ◌∷◌, ◌++◌, length, if◌then◌else◌, nat_lt};
+ghost use Rattle.std.specs.Prelude.{slice_set};
 ghost use Rattle.bounded.specs.Listed.{listed};
 
 use crate::list::Bounded;

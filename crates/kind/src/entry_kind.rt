@@ -25,5 +25,6 @@ pub trait EntryKind {
 
     ghost back: { (k : Self) (c : ℕ) (e : Self.Entry) → decoded k c ≡ Some e → coded k e ≡ c };
 
-    ghost own: { (k : Self) (c : ℕ) (e : Self.Entry) → c < 2 ^ 64 → decoded k c ≡ Some e → has k e };
+    ghost own: { (k : Self) (c : ℕ) (e : Self.Entry)
+        → c < 2 ^ 64 → decoded k c ≡ Some e → has k e };
 }

@@ -1,5 +1,6 @@
 -- The calls: what each answers, and what certifier and store then are.
-use Rattle.std.specs.Prelude.{◌≡◌, ℕ, Bool, true, cond, List, [], ◌∷◌, ◌++◌, length, Some, None, Ok, Err, Option, Result, ◌==◌}
+use Rattle.std.specs.Prelude.{◌≡◌, ℕ, Bool, true, cond, List, [], ◌∷◌, ◌++◌, length, Some, None, Ok}
+use Rattle.std.specs.Prelude.{Err, Option, Result, ◌==◌}
 use Rattle.model.specs.declared.version.Content.{Content}
 use Rattle.model.specs.declared.version.Content.TheVariants.{Entry, Absence}
 use Rattle.model.specs.declared.fault.Fault.{Fault}

@@ -1,5 +1,6 @@
 -- The table of refusals. Causes are tried from the top down, and the first that applies wins.
-use Rattle.std.specs.Prelude.{ℕ, ◌^◌, Bool, false, cond, not, ◌&&◌, ◌||◌, List, [], ◌∷◌, ◌++◌, length, is_some, Some, None, Option, ◌==◌, nat_le, nat_lt}
+use Rattle.std.specs.Prelude.{ℕ, ◌^◌, Bool, false, cond, not, ◌&&◌, ◌||◌, List, [], ◌∷◌, ◌++◌}
+use Rattle.std.specs.Prelude.{length, is_some, Some, None, Option, ◌==◌, nat_le, nat_lt}
 use Rattle.model.specs.Slots.{Slot, held, note_fits, oldest, other_section, other_writer}
 use Rattle.model.specs.Slots.{full, tally, read_answer}
 use Rattle.model.specs.Worlds.{World, or_free, slot_with, own_of}

@@ -1,5 +1,6 @@
 -- A transaction's slot, what it notes and writes, and what a list of slots tells.
-use Rattle.std.specs.Prelude.{ℕ, suc, Bool, true, false, cond, not, ◌&&◌, ◌||◌, List, [], ◌∷◌, ◌++◌, length, take, is_some, Some, None, Option, ◌==◌, nat_le, nat_lt}
+use Rattle.std.specs.Prelude.{ℕ, suc, Bool, true, false, cond, not, ◌&&◌, ◌||◌, List, [], ◌∷◌, ◌++◌}
+use Rattle.std.specs.Prelude.{length, take, is_some, Some, None, Option, ◌==◌, nat_le, nat_lt}
 use Rattle.model.specs.declared.version.Content.{Content}
 use Rattle.model.specs.declared.version.Content.TheVariants.{Entry, Absence}
 use Rattle.model.specs.declared.version.Version.{Version}

@@ -1,5 +1,6 @@
 -- What an append to one half does to a pair.
-use Rattle.std.proofs.Common.{◌≡◌, ℕ, ◌+◌, ◌-◌, ◌<◌, ◌≤◌, true, false, eqb, Ok, Err, Result, sym, refl, ap, ◌∙◌, ⊎_elim, arith}
+use Rattle.std.proofs.Common.{◌≡◌, ℕ, ◌+◌, ◌-◌, ◌<◌, ◌≤◌, true, false, eqb, Ok, Err, Result, sym}
+use Rattle.std.proofs.Common.{refl, ap, ◌∙◌, ⊎_elim, arith}
 use Rattle.std.proofs.lemmas.Bool.{lt-ltb, le-ltb, eq-eqb, ne_eqb, cond_both, cases_lt, cases_eq}
 use Rattle.model.specs.declared.version.Version.{Version}
 use Rattle.model.specs.declared.fault.Fault.{Fault}
@@ -90,9 +91,9 @@ module _ (s u : Stored) (g : ℕ) (h : s.archive.count ≤ g)
       (λ ne. ne_eqb _ _ (λ e. ne (omega arith)) ∙ sym (ne_eqb k g ne))
       (cases_eq k g)
 
-  second-grown : (u' : Stored) (v : Version) → Grown u u' (g - s.archive.count) v
+  second_grown : (u' : Stored) (v : Version) → Grown u u' (g - s.archive.count) v
       → Grown (paired s u) (paired s u') g v
-  second-grown u' v p =
+  second_grown u' v p =
       let e = p.count in let b = seen.0 in
       let other : (k : ℕ) → k < s.archive.count → eqb k g ≡ false =
       λ k w. ne_eqb k g (λ i. omega arith) in
@@ -118,13 +119,13 @@ module _ (s u : Stored) (g : ℕ) (h : s.archive.count ≤ g)
   appended : (u' : Stored) (o o' : ℕ → Fault → Type 0) (v : Version)
       (r : Result (Unit {0}) Fault) → Appended u u' o' (g - s.archive.count) v r
       → Appended (paired s u) (paired s u') (joined_origin s.archive u.archive o o') g v r
-  appended u' o o' v (Ok x) p = (second_fault v.stamp ∙ p.0, second-grown u' v p.1)
+  appended u' o o' v (Ok x) p = (second_fault v.stamp ∙ p.0, second_grown u' v p.1)
   appended u' o o' v (Err f) p =
       let i = le-ltb g s.archive.count h in
       let m = lt-ltb g (joined s.archive u.archive).count l in
       (second_fault v.stamp ∙ p.0, rw (i, m) p.1, ap (λ x. paired s x) p.2)
 
-  pub second-appended : (u' : Stored) (o o' : ℕ → Fault → Type 0) (n : ℕ) (v : Version)
+  pub second_appended : (u' : Stored) (o o' : ℕ → Fault → Type 0) (n : ℕ) (v : Version)
       (r : Result (Unit {0}) Fault) → n ≡ s.archive.count → Appended u u' o' (g - n) v r
       → Appended (paired s u) (paired s u') (joined_origin s.archive u.archive o o') g v r
-  second-appended u' o o' n v r e p = appended u' o o' v r (rw e at p)
+  second_appended u' o o' n v r e p = appended u' o o' v r (rw e at p)

@@ -1,5 +1,6 @@
 -- The latest stamp of two ranges of granules, one after the other.
-use Rattle.std.proofs.Common.{◌≡◌, ℕ, zero, suc, ◌+◌, ◌-◌, ◌<◌, max, true, List, refl, ap, ◌∙◌, add-zero, add-suc, arith}
+use Rattle.std.proofs.Common.{◌≡◌, ℕ, zero, suc, ◌+◌, ◌-◌, ◌<◌, max, true, List, refl, ap, ◌∙◌}
+use Rattle.std.proofs.Common.{add-zero, add-suc, arith}
 use Rattle.std.proofs.lemmas.Bool.{cond-true, cond-false, lt-ltb, le-ltb}
 use Rattle.model.specs.declared.version.Version.{Version}
 use Rattle.model.specs.Archives.{Archived, top_below, latest_of}

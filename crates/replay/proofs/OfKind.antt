@@ -13,9 +13,9 @@ module _ (w w' : World) (t a g : ℕ) (k : RosterKind) (x : Answer) (e : k ≡ k
       subst (λ (j : RosterKind). Does w (call_read t a g (λ n. is_some (roster_entry j n))) x w')
       e d
 
-  pub write-at : (c : ℕ) → Does w (call_write t a g c (λ n. is_some (roster_entry k n))) x w'
+  pub write_at : (c : ℕ) → Does w (call_write t a g c (λ n. is_some (roster_entry k n))) x w'
       → Does w (call_write t a g c (of_kind g)) x w'
-  write-at c d =
+  write_at c d =
       subst (λ (j : RosterKind). Does w (call_write t a g c (λ n. is_some (roster_entry j n))) x w')
       e d
 

@@ -1,5 +1,6 @@
 -- What a script does, line by line, and what is written for it.
-use Rattle.std.specs.Prelude.{◌≡◌, ℕ, Bool, List, [], ◌∷◌, ◌++◌, length, is_some, Some, None, Ok, Err, MatchBool, Result, nat_le}
+use Rattle.std.specs.Prelude.{◌≡◌, ℕ, Bool, List, [], ◌∷◌, ◌++◌, length, is_some, Some, None, Ok}
+use Rattle.std.specs.Prelude.{Err, MatchBool, Result, nat_le}
 use Rattle.std.specs.declared.alloc.AllocError.{AllocError}
 use Rattle.model.specs.declared.fault.Fault.{Fault}
 use Rattle.model.specs.declared.answer.Reply.{Reply}
@@ -42,7 +43,7 @@ abbrev pub sense : {X : Type 0} → (X → Archived) → (X → ℕ → ℕ) →
 sense m r o = record { means = m; room = r; origin = o }
 
 -- an event put to the certifier c beside the store s: the answer o, and what they then are
-pub record Put-event {X : Type 0} (σ : Sense X) (c : Certifier) (s : X) (e : S.Said)
+pub record PutEvent {X : Type 0} (σ : Sense X) (c : Certifier) (s : X) (e : S.Said)
     (o : Result Reply Refusal) (c' : Certifier) (s' : X) : Type 0 where
   pub arising : M.Arising (σ.origin s) o
   pub does : M.Does (beside c (σ.means s) (σ.room s)) (call_of e (σ.means s').reach)
@@ -50,26 +51,27 @@ pub record Put-event {X : Type 0} (σ : Sense X) (c : Certifier) (s : X) (e : S.
 
 -- a line put to the certifier c beside the store s: the text that is written for it, and what
 -- certifier and store then are
-pub data Answered-line {X : Type 0} (σ : Sense X) (c : Certifier) (s : X) (l : List ℕ)
+pub data AnsweredLine {X : Type 0} (σ : Sense X) (c : Certifier) (s : X) (l : List ℕ)
     : List ℕ → Certifier → X → Type 0 where
-  unreadable : event_of l ≡ None → Answered-line σ c s l (unreadable_line ++ (10 ∷ [])) c s
+  unreadable : event_of l ≡ None → AnsweredLine σ c s l (unreadable_line ++ (10 ∷ [])) c s
   answered : {c' : Certifier} {s' : X} (e : S.Said) (o : Result Reply Refusal)
-      → event_of l ≡ Some e → Put-event σ c s e o c' s'
-      → Answered-line σ c s l (answer_line e o ++ (10 ∷ [])) c' s'
+      → event_of l ≡ Some e → PutEvent σ c s e o c' s'
+      → AnsweredLine σ c s l (answer_line e o ++ (10 ∷ [])) c' s'
 
 -- the lines of a script in order
 pub data Replayed {X : Type 0} (σ : Sense X) (c : Certifier) (s : X)
     : List (List ℕ) → List ℕ → Certifier → X → Type 0 where
   no_line : Replayed σ c s [] [] c s
-  one_more : {ls : List (List ℕ)} {text more : List ℕ} {c' c'' : Certifier} {s' s'' : X} (l : List ℕ)
-      → Replayed σ c s ls text c' s' → Answered-line σ c' s' l more c'' s''
+  one_more : {ls : List (List ℕ)} {text more : List ℕ} {c' c'' : Certifier} {s' s'' : X}
+      (l : List ℕ)
+      → Replayed σ c s ls text c' s' → AnsweredLine σ c' s' l more c'' s''
       → Replayed σ c s (ls ++ (l ∷ [])) (text ++ more) c'' s''
 
 -- one line, where the output was `out` and is `out'`
 abbrev pub PutLine : {X : Type 0} → Sense X → Certifier → X → List ℕ → List ℕ → List ℕ
     → Result (Unit {0}) AllocError → Certifier → X → Type 0
 PutLine σ c s l out out' r c' s' =
-    (text : List ℕ) × Answered-line σ c s l text c' s' × Appends out out' text r
+    (text : List ℕ) × AnsweredLine σ c s l text c' s' × Appends out out' text r
 
 -- the lines before some others have been put
 abbrev pub PutFront : {X : Type 0} → Sense X → Certifier → X → List (List ℕ) → List (List ℕ)

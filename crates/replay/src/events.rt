@@ -3,7 +3,7 @@ ghost use Rattle.std.specs.Prelude.{◌≡◌, OnErr};
 ghost use Rattle.script.specs.Events.{said};
 ghost use Rattle.model.specs.Calls as M;
 ghost use Rattle.certifier.specs.Beside.{beside};
-ghost use Rattle.replay.specs.Replays.{sense, Put-event, of_kind};
+ghost use Rattle.replay.specs.Replays.{sense, PutEvent, of_kind};
 
 use certifier::Certifier;
 use kind::{EntryKind, RosterKind};
@@ -75,7 +75,7 @@ pub fn put_event<S: Store>(
     ensures lent { S.Store.lent store.new
         ≡ S.Store.lent store.old }
     ensures same { OnErr result (store.new ≡ store.old) }
-    ensures put { Put-event
+    ensures put { PutEvent
         (sense S.Archive.means S.Store.room S.Archive.origin)
         certifier.old store.old (said event.now) result
         certifier.new store.new }

@@ -1,6 +1,8 @@
 -- The event that is read from a line is written as that line.
-use Rattle.std.proofs.Common.{◌≡◌, ℕ, ◌^◌, ◌<◌, ◌≤◌, true, false, cond, eqb, ltb, leb, List, [], ◌∷◌, ◌++◌, length, get_or, take, Some, None, decimal, Option, sym, refl, ap, ◌∙◌, subst, ⊎_elim, append_assoc, append-nil, arith}
-use Rattle.std.specs.List.{AllByRecursion as All}
+use Rattle.std.proofs.Common.{◌≡◌, ℕ, ◌^◌, ◌<◌, ◌≤◌, true, false, cond, eqb, ltb, leb, List, []}
+use Rattle.std.proofs.Common.{◌∷◌, ◌++◌, length, get_or, take, Some, None, decimal, Option, sym}
+use Rattle.std.proofs.Common.{refl, ap, ◌∙◌, subst, ⊎_elim, append_assoc, append-nil, arith}
+use Rattle.std.specs.List.{AllByRecursion}
 use Rattle.std.proofs.lemmas.List.{take_all, take_more}
 use Rattle.std.proofs.lemmas.Bool.{cases_Bool, eqb-true, leb-true}
 use Rattle.script.specs.declared.events.EventKind.{EventKind}
@@ -36,7 +38,7 @@ led_left None = refl
 led_left (Some s) = led_pieces 32 s
 
 abbrev pub Small : List ℕ → Type 0
-Small ns = All (λ n. n < 2 ^ 64) ns
+Small ns = AllByRecursion (λ n. n < 2 ^ 64) ns
 
 -- the words ws are the numbers more, which come after ns
 record Gathered (ns ms : List ℕ) (ws : List (List ℕ)) : Type 0 where

@@ -1,6 +1,8 @@
 -- The line of an event is read as that event, and no other line is.
-use Rattle.std.proofs.Common.{◌≡◌, ℕ, ◌+◌, ◌^◌, ◌<◌, ◌≤◌, true, false, eqb, ltb, List, [], ◌∷◌, ◌++◌, map, length, Some, None, decimal, Option, sym, refl, ap, ◌∙◌, append_assoc, append-nil, arith, length-append}
-use Rattle.std.specs.List.{AllByRecursion as All}
+use Rattle.std.proofs.Common.{◌≡◌, ℕ, ◌+◌, ◌^◌, ◌<◌, ◌≤◌, true, false, eqb, ltb, List, [], ◌∷◌}
+use Rattle.std.proofs.Common.{◌++◌, map, length, Some, None, decimal, Option, sym, refl, ap, ◌∙◌}
+use Rattle.std.proofs.Common.{append_assoc, append-nil, arith, length-append}
+use Rattle.std.specs.List.{AllByRecursion}
 use Rattle.std.specs.Str.{all_ascii_digits}
 use Rattle.std.proofs.lemmas.Fmt.{digits_decimal}
 use Rattle.std.proofs.lemmas.Bool.{lt-ltb, le-leb}
@@ -22,7 +24,7 @@ use Rattle.script.proofs.EventLaw.{Small, event_gives}
 
 -- bytes with no space among them
 abbrev Free : List ℕ → Type 0
-Free w = All (λ c. eqb c 32 ≡ false) w
+Free w = AllByRecursion (λ c. eqb c 32 ≡ false) w
 
 digits_free : (ds : List ℕ) → all_ascii_digits ds ≡ true → Free ds
 digits_free [] h = tt

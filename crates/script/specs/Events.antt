@@ -1,5 +1,6 @@
 -- The events, their letters, and what follows the letters.
-use Rattle.std.specs.Prelude.{ℕ, Bool, true, cond, ◌&&◌, ◌||◌, List, [], ◌∷◌, length, Some, None, Option, ◌==◌, nat_le, slice_index}
+use Rattle.std.specs.Prelude.{ℕ, Bool, true, cond, ◌&&◌, ◌||◌, List, [], ◌∷◌, length, Some, None}
+use Rattle.std.specs.Prelude.{Option, ◌==◌, nat_le, slice_index}
 use Rattle.script.specs.declared.events.Event.{Event}
 use Rattle.script.specs.declared.events.Event.TheVariants as E
 use Rattle.script.specs.declared.events.EventKind.{EventKind}
@@ -79,7 +80,9 @@ with_numbers K.Notice ns = counted 1 ns (notice_event (nth ns 0))
 
 -- a tablet's name has 1 to 8 letters or digits
 abbrev pub alphanumeric : ℕ → Bool
-alphanumeric c = (nat_le 48 c && nat_le c 57) || ((nat_le 65 c && nat_le c 90) || (nat_le 97 c && nat_le c 122))
+alphanumeric c =
+    (nat_le 48 c && nat_le c 57)
+    || ((nat_le 65 c && nat_le c 90) || (nat_le 97 c && nat_le c 122))
 
 abbrev pub all_alphanumeric : List ℕ → Bool
 all_alphanumeric [] = true

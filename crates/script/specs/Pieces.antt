@@ -1,5 +1,6 @@
 -- A list of bytes cut at a separator.
-use Rattle.std.specs.Prelude.{ℕ, ◌+◌, cond, not, List, [], ◌∷◌, ◌++◌, length, take, drop, Some, None, Option, ◌==◌, nat_lt}
+use Rattle.std.specs.Prelude.{ℕ, ◌+◌, cond, not, List, [], ◌∷◌, ◌++◌, length, take, drop, Some}
+use Rattle.std.specs.Prelude.{None, Option, ◌==◌, nat_lt}
 use Rattle.std.specs.List.{prefix_len}
 
 -- how many bytes stand before the first separator

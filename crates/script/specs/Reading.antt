@@ -1,5 +1,6 @@
 -- Which event a line is.
-use Rattle.std.specs.Prelude.{ℕ, cond, List, [], ◌∷◌, ◌++◌, length, Some, None, Option, ◌==◌, nat_le, nat_lt, slice_index}
+use Rattle.std.specs.Prelude.{ℕ, cond, List, [], ◌∷◌, ◌++◌, length, Some, None, Option, ◌==◌}
+use Rattle.std.specs.Prelude.{nat_le, nat_lt, slice_index}
 use Rattle.script.specs.declared.events.EventKind.{EventKind}
 use Rattle.script.specs.declared.events.EventKind.TheVariants as K
 use Rattle.script.specs.Numbers.{number_of}

@@ -1,6 +1,7 @@
 -- An event as a line.
-use Rattle.std.specs.Prelude.{◌≡◌, ℕ, ◌^◌, ◌<◌, ◌≤◌, Bool, true, List, [], ◌∷◌, ◌++◌, length, Some, None, decimal, Option, ◌≢◌}
-use Rattle.std.specs.List.{AllByRecursion as All}
+use Rattle.std.specs.Prelude.{◌≡◌, ℕ, ◌^◌, ◌<◌, ◌≤◌, Bool, true, List, [], ◌∷◌, ◌++◌, length, Some}
+use Rattle.std.specs.Prelude.{None, decimal, Option, ◌≢◌}
+use Rattle.std.specs.List.{AllByRecursion}
 use Rattle.script.specs.Events.{Said, letter_of, name_ok}
 use Rattle.script.specs.Events.{open_event, begin_event, read_event, write_event, erase_event}
 use Rattle.script.specs.Events.{commit_event, roll_back_event, advance_event, status_event}
@@ -54,7 +55,7 @@ written e = letter_of e ∷ (spaced (numbers_of e) ++ named e)
 
 -- an event that a line of at most 64 bytes can hold
 pub record Formed (e : Said) : Type 0 where
-  pub small : All (λ n. n < 2 ^ 64) (numbers_of e)
+  pub small : AllByRecursion (λ n. n < 2 ^ 64) (numbers_of e)
   pub name : good_name e ≡ true
   pub short : length (written e) ≤ 64
 

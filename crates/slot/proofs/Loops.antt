@@ -1,7 +1,10 @@
 -- One turn of a loop over a list: what is left gives the answer. Each recursion has its step where
 -- the item passes, its step where it does not, and its end.
-use Rattle.std.proofs.Common.{◌≡◌, ℕ, suc, ◌+◌, ◌<◌, ◌≤◌, Bool, true, false, cond, ◌||◌, eqb, List, [], ◌∷◌, ◌++◌, map, length, get_or, take, drop, set, Some, None, Option, sym, refl, ap, ◌∙◌, arith}
-use Rattle.std.proofs.lemmas.List.{take_all, drop_all, append-nil, at_drop_more, at_drop_all, map-set, get_or-map, length-map}
+use Rattle.std.proofs.Common.{◌≡◌, ℕ, suc, ◌+◌, ◌<◌, ◌≤◌, Bool, true, false, cond, ◌||◌, eqb, List}
+use Rattle.std.proofs.Common.{[], ◌∷◌, ◌++◌, map, length, get_or, take, drop, set, Some, None}
+use Rattle.std.proofs.Common.{Option, sym, refl, ap, ◌∙◌, arith}
+use Rattle.std.proofs.lemmas.List.{take_all, drop_all, append-nil, at_drop_more, at_drop_all}
+use Rattle.std.proofs.lemmas.List.{map-set, get_or-map, length-map}
 use Rattle.std.proofs.lemmas.Bool.{cond-true, cond-false, or_left, eq-eqb, ne_eqb}
 use Rattle.std.proofs.lemmas.Bool.Decides.{nat_tests}
 use Rattle.std.proofs.lemmas.List.Edits.{map_over_more}
@@ -31,32 +34,32 @@ mem_none g ns i h = at_drop_all (M.mem g) ns i h
 -- a granule among the writes
 
 module _ (g : ℕ) (ws : List Write) (i : ℕ) (d : Write) (h : i < length ws) where
-  own-step : M.own g (drop i ws)
+  own_step : M.own g (drop i ws)
       ≡ cond (eqb g (get_or ws i d).granule) (Some (get_or ws i d).content)
       (M.own g (drop (i + 1) ws))
-  own-step = at_drop_more (M.own g) ws i d h
+  own_step = at_drop_more (M.own g) ws i d h
 
-  pub own-here : g ≡ (get_or ws i d).granule → M.own g (drop i ws) ≡ Some (get_or ws i d).content
-  own-here e = own-step ∙ cond-true _ _ _ (eq-eqb _ _ e)
+  pub own_here : g ≡ (get_or ws i d).granule → M.own g (drop i ws) ≡ Some (get_or ws i d).content
+  own_here e = own_step ∙ cond-true _ _ _ (eq-eqb _ _ e)
 
-  pub own-next : (g ≡ (get_or ws i d).granule → ⊥) → M.own g (drop i ws) ≡ M.own g (drop (i + 1) ws)
-  own-next e = own-step ∙ cond-false _ _ _ (ne_eqb _ _ e)
+  pub own_next : (g ≡ (get_or ws i d).granule → ⊥) → M.own g (drop i ws) ≡ M.own g (drop (i + 1) ws)
+  own_next e = own_step ∙ cond-false _ _ _ (ne_eqb _ _ e)
 
 pub own_none : (g : ℕ) (ws : List Write) (i : ℕ) → length ws ≤ i → M.own g (drop i ws) ≡ None
 own_none g ws i h = at_drop_all (M.own g) ws i h
 
 module _ (g : ℕ) (ws : List Write) (i : ℕ) (d : Write) (h : i < length ws) where
-  place-step : first_from (is_of g) i (drop i ws)
+  place_step : first_from (is_of g) i (drop i ws)
       ≡ cond (eqb g (get_or ws i d).granule) (Some i)
       (first_from (is_of g) (i + 1) (drop (i + 1) ws))
-  place-step = at_drop_more (first_from (is_of g) i) ws i d h
+  place_step = at_drop_more (first_from (is_of g) i) ws i d h
 
   pub place_here : g ≡ (get_or ws i d).granule → first_from (is_of g) i (drop i ws) ≡ Some i
-  place_here e = place-step ∙ cond-true _ _ _ (eq-eqb _ _ e)
+  place_here e = place_step ∙ cond-true _ _ _ (eq-eqb _ _ e)
 
-  pub place-next : (g ≡ (get_or ws i d).granule → ⊥)
+  pub place_next : (g ≡ (get_or ws i d).granule → ⊥)
       → first_from (is_of g) i (drop i ws) ≡ first_from (is_of g) (i + 1) (drop (i + 1) ws)
-  place-next e = place-step ∙ cond-false _ _ _ (ne_eqb _ _ e)
+  place_next e = place_step ∙ cond-false _ _ _ (ne_eqb _ _ e)
 
 pub place_none : (g : ℕ) (ws : List Write) (i : ℕ) → length ws ≤ i
     → first_from (is_of g) i (drop i ws) ≡ None
@@ -65,18 +68,18 @@ place_none g ws i h = at_drop_all (first_from (is_of g) i) ws i h
 -- the first write among the notes
 
 module _ (ws : List Write) (ns : List ℕ) (i : ℕ) (d : Write) (h : i < length ws) where
-  conflict-step : M.conflict (drop i ws) ns
+  conflict_step : M.conflict (drop i ws) ns
       ≡ cond (M.mem (get_or ws i d).granule ns) (Some (get_or ws i d).granule)
       (M.conflict (drop (i + 1) ws) ns)
-  conflict-step = at_drop_more (λ xs. M.conflict xs ns) ws i d h
+  conflict_step = at_drop_more (λ xs. M.conflict xs ns) ws i d h
 
-  pub conflict-here : M.mem (get_or ws i d).granule ns ≡ true
+  pub conflict_here : M.mem (get_or ws i d).granule ns ≡ true
       → M.conflict (drop i ws) ns ≡ Some (get_or ws i d).granule
-  conflict-here e = conflict-step ∙ cond-true _ _ _ e
+  conflict_here e = conflict_step ∙ cond-true _ _ _ e
 
-  pub conflict-next : M.mem (get_or ws i d).granule ns ≡ false
+  pub conflict_next : M.mem (get_or ws i d).granule ns ≡ false
       → M.conflict (drop i ws) ns ≡ M.conflict (drop (i + 1) ws) ns
-  conflict-next e = conflict-step ∙ cond-false _ _ _ e
+  conflict_next e = conflict_step ∙ cond-false _ _ _ e
 
 pub conflict_none : (ws : List Write) (ns : List ℕ) (i : ℕ) → length ws ≤ i
     → M.conflict (drop i ws) ns ≡ None
@@ -90,8 +93,8 @@ module _ {X Y : Type 0} (p : Y → Bool) (f : X → Y) (xs : List X) (i : ℕ) (
       ≡ cond (p (f (get_or xs i x))) (Some i) (first_from p (i + 1) (map f (drop (i + 1) xs)))
   first_step = at_drop_more (λ ys. first_from p i (map f ys)) xs i x h
 
-  pub first-here : p (f x) ≡ true → first_from p i (map f (drop i xs)) ≡ Some i
-  first-here y = first_step ∙ cond-true _ _ _ (ap (λ v. p (f v)) (sym e) ∙ y)
+  pub first_here : p (f x) ≡ true → first_from p i (map f (drop i xs)) ≡ Some i
+  first_here y = first_step ∙ cond-true _ _ _ (ap (λ v. p (f v)) (sym e) ∙ y)
 
   pub first_next : p (f x) ≡ false
       → first_from p i (map f (drop i xs)) ≡ first_from p (i + 1) (map f (drop (i + 1) xs))
@@ -105,35 +108,35 @@ first_none p f xs i h = at_drop_all (λ ys. first_from p i (map f ys)) xs i h
 
 module _ {X : Type 0} (p : M.Slot → Bool) (f : X → M.Slot) (xs : List X) (i : ℕ) (x : X)
     (h : i < length xs) (e : x ≡ get_or xs i x) where
-  count-step : M.tally p (map f (drop i xs))
+  count_step : M.tally p (map f (drop i xs))
       ≡ cond (p (f (get_or xs i x))) (suc (M.tally p (map f (drop (i + 1) xs))))
       (M.tally p (map f (drop (i + 1) xs)))
-  count-step = at_drop_more (λ ys. M.tally p (map f ys)) xs i x h
+  count_step = at_drop_more (λ ys. M.tally p (map f ys)) xs i x h
 
-  pub count-here : p (f x) ≡ true
+  pub count_here : p (f x) ≡ true
       → M.tally p (map f (drop i xs)) ≡ 1 + M.tally p (map f (drop (i + 1) xs))
-  count-here y =
-      let c = count-step ∙ cond-true _ _ _ (ap (λ v. p (f v)) (sym e) ∙ y) in omega arith
+  count_here y =
+      let c = count_step ∙ cond-true _ _ _ (ap (λ v. p (f v)) (sym e) ∙ y) in omega arith
 
   pub count_next : p (f x) ≡ false
       → M.tally p (map f (drop i xs)) ≡ M.tally p (map f (drop (i + 1) xs))
-  count_next y = count-step ∙ cond-false _ _ _ (ap (λ v. p (f v)) (sym e) ∙ y)
+  count_next y = count_step ∙ cond-false _ _ _ (ap (λ v. p (f v)) (sym e) ∙ y)
 
-  older-step : M.oldest p (map f (drop i xs))
+  older_step : M.oldest p (map f (drop i xs))
       ≡ cond (p (f (get_or xs i x)))
       (M.elder (f (get_or xs i x)) (M.oldest p (map f (drop (i + 1) xs))))
       (M.oldest p (map f (drop (i + 1) xs)))
-  older-step = at_drop_more (λ ys. M.oldest p (map f ys)) xs i x h
+  older_step = at_drop_more (λ ys. M.oldest p (map f ys)) xs i x h
 
-  oldest-here : p (f x) ≡ true
+  oldest_here : p (f x) ≡ true
       → M.oldest p (map f (drop i xs)) ≡ M.elder (f x) (M.oldest p (map f (drop (i + 1) xs)))
-  oldest-here y =
-      older-step ∙ (cond-true _ _ _ (ap (λ v. p (f v)) (sym e) ∙ y)
+  oldest_here y =
+      older_step ∙ (cond-true _ _ _ (ap (λ v. p (f v)) (sym e) ∙ y)
       ∙ ap (λ v. M.elder (f v) (M.oldest p (map f (drop (i + 1) xs)))) (sym e))
 
-  oldest-next : p (f x) ≡ false
+  oldest_next : p (f x) ≡ false
       → M.oldest p (map f (drop i xs)) ≡ M.oldest p (map f (drop (i + 1) xs))
-  oldest-next y = older-step ∙ cond-false _ _ _ (ap (λ v. p (f v)) (sym e) ∙ y)
+  oldest_next y = older_step ∙ cond-false _ _ _ (ap (λ v. p (f v)) (sym e) ∙ y)
 
 pub count_none : {X : Type 0} (p : M.Slot → Bool) (f : X → M.Slot) (xs : List X) (i : ℕ)
     → length xs ≤ i → M.tally p (map f (drop i xs)) ≡ 0
@@ -158,13 +161,13 @@ pub best_here : {X : Type 0} (p : M.Slot → Bool) (f : X → M.Slot) (xs : List
     → b' ≡ join b (Some (f x))
     → join b (M.oldest p (map f (drop i xs))) ≡ join b' (M.oldest p (map f (drop (i + 1) xs)))
 best_here p f xs i x b b' h e y q =
-    ap (join b) (oldest-here p f xs i x h e y) ∙ (join_elder b (f x) _
+    ap (join b) (oldest_here p f xs i x h e y) ∙ (join_elder b (f x) _
     ∙ ap (λ v. join v (M.oldest p (map f (drop (i + 1) xs)))) (sym q))
 
 pub best_next : {X : Type 0} (p : M.Slot → Bool) (f : X → M.Slot) (xs : List X) (i : ℕ) (x : X)
     (b : Option M.Slot) → i < length xs → x ≡ get_or xs i x → p (f x) ≡ false
     → join b (M.oldest p (map f (drop i xs))) ≡ join b (M.oldest p (map f (drop (i + 1) xs)))
-best_next p f xs i x b h e y = ap (join b) (oldest-next p f xs i x h e y)
+best_next p f xs i x b h e y = ap (join b) (oldest_next p f xs i x h e y)
 
 pub best_end : {X : Type 0} (p : M.Slot → Bool) (f : X → M.Slot) (xs : List X) (i : ℕ)
     (b : Option M.Slot) → length xs ≤ i → join b (M.oldest p (map f (drop i xs))) ≡ b

@@ -1,5 +1,6 @@
 -- The slot that a search has found, in the list of what the slots mean.
-use Rattle.std.proofs.Common.{◌≡◌, ℕ, suc, ◌+◌, ◌≤◌, Bool, true, false, cond, List, [], ◌∷◌, map, length, get_or, set, Some, None, sym, refl, ap, ◌∙◌, ⊎_elim, arith}
+use Rattle.std.proofs.Common.{◌≡◌, ℕ, suc, ◌+◌, ◌≤◌, Bool, true, false, cond, List, [], ◌∷◌, map}
+use Rattle.std.proofs.Common.{length, get_or, set, Some, None, sym, refl, ap, ◌∙◌, ⊎_elim, arith}
 use Rattle.std.proofs.lemmas.List.{map-set, get_or-map, set_past, length-map}
 use Rattle.std.proofs.lemmas.Bool.{cases_lt}
 use Rattle.std.proofs.lemmas.Bool.Decides.{nat_tests}
@@ -107,7 +108,8 @@ all_held xs e = full_from xs 0 (sym e)
 
 -- a slot that a method has changed as g says
 pub one_changed : {X Y : Type 0} (f : X → Y) (g : Y → Y) (xs : List X) (i : ℕ) (x x' : X) (d : Y)
-    → f x' ≡ g (f (get_or xs i x)) → map f (set xs i x') ≡ set (map f xs) i (g (get_or (map f xs) i d))
+    → f x' ≡ g (f (get_or xs i x))
+    → map f (set xs i x') ≡ set (map f xs) i (g (get_or (map f xs) i d))
 one_changed f g xs i x x' d y =
     map-set f xs i x' ∙ ⊎_elim
     (λ h. let r : get_or (map f xs) i d ≡ f (get_or xs i x) = get_or-map f xs i x d h in

@@ -1,5 +1,6 @@
 -- What the changes of a slot are.
-use Rattle.std.specs.Prelude.{ℕ, ◌+◌, Bool, cond, ◌||◌, List, [], ◌∷◌, length, is_some, Some, None, Option, ◌==◌, nat_lt}
+use Rattle.std.specs.Prelude.{ℕ, ◌+◌, Bool, cond, ◌||◌, List, [], ◌∷◌, length, is_some, Some, None}
+use Rattle.std.specs.Prelude.{Option, ◌==◌, nat_lt}
 use Rattle.model.specs.declared.version.Content.{Content}
 use Rattle.model.specs.declared.version.Write.{Write}
 use Rattle.model.specs.declared.phase.Mark.TheVariants.{Checked}

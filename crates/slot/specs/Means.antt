@@ -16,4 +16,5 @@ slots_of xs = map slot_of xs
 -- the slot at i is the one that has the stamp
 pub record Stands (t : ℕ) (xs : List M.Slot) (i : ℕ) : Type 0 where
   pub held : M.held t xs ≡ Some (slice_index_or xs i M.free_slot)
-  pub changes : (f : M.Slot → M.Slot) → M.adjust t f xs ≡ slice_set xs i (f (slice_index_or xs i M.free_slot))
+  pub changes : (f : M.Slot → M.Slot)
+      → M.adjust t f xs ≡ slice_set xs i (f (slice_index_or xs i M.free_slot))

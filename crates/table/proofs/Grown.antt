@@ -1,6 +1,10 @@
 -- What a version put behind the others does to its granule, and to the table.
-use Rattle.std.proofs.Common.{◌≡◌, ℕ, zero, suc, ◌+◌, ◌-◌, ◌*◌, ◌%◌, ◌^◌, ◌<◌, ◌≤◌, Bool, true, false, cond, ltb, leb, List, [], ◌∷◌, ◌++◌, length, set, Some, None, Ok, Err, Option, Result, sym, refl, ap, ◌∙◌, inl, inr, ⊎_elim, arith, length-set, get_or-set_other, get_or-set_same}
-use Rattle.std.proofs.lemmas.Bool.{eq-eqb, ne_eqb, lt-ltb, le-ltb, ltb-true, le-leb, lt-leb, cond-true, cond-false, cases_eq, cases_lt, both_ways}
+use Rattle.std.proofs.Common.{◌≡◌, ℕ, zero, suc, ◌+◌, ◌-◌, ◌*◌, ◌%◌, ◌^◌, ◌<◌, ◌≤◌, Bool, true}
+use Rattle.std.proofs.Common.{false, cond, ltb, leb, List, [], ◌∷◌, ◌++◌, length, set, Some, None}
+use Rattle.std.proofs.Common.{Ok, Err, Option, Result, sym, refl, ap, ◌∙◌, inl, inr, ⊎_elim, arith}
+use Rattle.std.proofs.Common.{length-set, get_or-set_other, get_or-set_same}
+use Rattle.std.proofs.lemmas.Bool.{eq-eqb, ne_eqb, lt-ltb, le-ltb, ltb-true, le-leb, lt-leb}
+use Rattle.std.proofs.lemmas.Bool.{cond-true, cond-false, cases_eq, cases_lt, both_ways}
 use Rattle.std.proofs.lemmas.List.{length_push}
 use Rattle.model.specs.declared.version.Content.{Content}
 use Rattle.model.specs.declared.version.Content.TheVariants.{Entry, Absence}
@@ -253,8 +257,8 @@ module _ (ws us : List ℕ) (n d g : ℕ) (v : Version) (l : g < n)
       × (versions_in us (h * d) d ≡ versions_in ws (h * d) d)
   others_same h ne = same_pairs ws us (h * d) d 0 false (apart h ne)
 
-  stays-sound : SoundTable ws n d → length us ≡ length ws → SoundTable us n d
-  stays-sound c e = record {
+  stays_sound : SoundTable ws n d → length us ≡ length ws → SoundTable us n d
+  stays_sound c e = record {
     few = c.few;
     deep = c.deep;
     shallow = c.shallow;
@@ -322,7 +326,7 @@ table_grown ws us n d g v c h e =
     let m = put_more ws (g * d) d v (c.right g l) a.2 (omega arith) a.1 a.0 in
     let long = length-set _ (2 * (g * d + length (versions_in ws (g * d) d)) + 1) _
     ∙ length-set ws (2 * (g * d + length (versions_in ws (g * d) d))) _ in
-    rw e (stays-sound ws _ n d g v l m c long, grown ws _ n d g v l m)
+    rw e (stays_sound ws _ n d g v l m c long, grown ws _ n d g v l m)
 
 abbrev InTable : ℕ → Fault → Type 0
 InTable g f = (f.layer ≡ 1) × (f.granule ≡ g)

@@ -1,6 +1,10 @@
 -- The check's answer and the tables that are written out in the words.
-use Rattle.std.proofs.Common.{◌≡◌, ℕ, zero, suc, ◌+◌, ◌*◌, ◌%◌, ◌^◌, ◌<◌, ◌≤◌, Bool, true, false, cond, leb, ◌⊎◌, List, [], ◌∷◌, length, take, drop, Some, None, Ok, Err, Option, Result, sym, refl, ap, ◌∙◌, subst, inl, inr, ⊎_elim, arith, drop-cons}
-use Rattle.std.proofs.lemmas.Bool.{lt-ltb, leb-true, le-leb, lt-leb, cond_both, both_ways, and_parts, and_from}
+use Rattle.std.proofs.Common.{◌≡◌, ℕ, zero, suc, ◌+◌, ◌*◌, ◌%◌, ◌^◌, ◌<◌, ◌≤◌, Bool, true, false}
+use Rattle.std.proofs.Common.{cond, leb, ◌⊎◌, List, [], ◌∷◌, length, take, drop, Some, None, Ok}
+use Rattle.std.proofs.Common.{Err, Option, Result, sym, refl, ap, ◌∙◌, subst, inl, inr, ⊎_elim}
+use Rattle.std.proofs.Common.{arith, drop-cons}
+use Rattle.std.proofs.lemmas.Bool.{lt-ltb, leb-true, le-leb, lt-leb, cond_both, both_ways}
+use Rattle.std.proofs.lemmas.Bool.{and_parts, and_from}
 use Rattle.model.specs.declared.version.Version.{Version}
 use Rattle.model.specs.Archives.{or_else, Rising}
 use Rattle.table.specs.declared.check.TableFault.{TableFault}

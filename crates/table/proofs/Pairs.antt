@@ -1,6 +1,10 @@
 -- How versions and wrong pairs go on from pair to pair and from granule to granule.
-use Rattle.std.proofs.Common.{◌≡◌, ℕ, zero, suc, ◌+◌, ◌-◌, ◌*◌, ◌^◌, ◌<◌, ◌≤◌, Bool, true, false, cond, ◌&&◌, eqb, ltb, leb, List, [], ◌∷◌, length, get_or, Some, None, Option, refl, ◌∙◌, ⊎_elim, add-mul, one-mul, arith}
-use Rattle.std.proofs.lemmas.Bool.{eq-eqb, ne_eqb, le-ltb, le-leb, lt-leb, cond-true, cond-false, cond_both, cases_eq, cases_lt, and_from, and_left, and_right, or_from}
+use Rattle.std.proofs.Common.{◌≡◌, ℕ, zero, suc, ◌+◌, ◌-◌, ◌*◌, ◌^◌, ◌<◌, ◌≤◌, Bool, true, false}
+use Rattle.std.proofs.Common.{cond, ◌&&◌, eqb, ltb, leb, List, [], ◌∷◌, length, get_or, Some, None}
+use Rattle.std.proofs.Common.{Option, refl, ◌∙◌, ⊎_elim, add-mul, one-mul, arith}
+use Rattle.std.proofs.lemmas.Bool.{eq-eqb, ne_eqb, le-ltb, le-leb, lt-leb, cond-true, cond-false}
+use Rattle.std.proofs.lemmas.Bool.{cond_both, cases_eq, cases_lt, and_from, and_left, and_right}
+use Rattle.std.proofs.lemmas.Bool.{or_from}
 use Rattle.std.proofs.lemmas.Nat.{mul-le}
 use Rattle.model.specs.declared.version.Version.{Version}
 use Rattle.model.specs.Archives.{or_else, newest, top}

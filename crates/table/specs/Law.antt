@@ -1,5 +1,6 @@
 -- Tables in the subject's own words: lists of versions, written out one after the other.
-use Rattle.std.specs.Prelude.{◌≡◌, ℕ, zero, suc, ◌*◌, ◌%◌, ◌<◌, ◌≤◌, List, [], ◌∷◌, length, take, drop, Ok, Err, Result}
+use Rattle.std.specs.Prelude.{◌≡◌, ℕ, zero, suc, ◌*◌, ◌%◌, ◌<◌, ◌≤◌, List, [], ◌∷◌, length, take}
+use Rattle.std.specs.Prelude.{drop, Ok, Err, Result}
 use Rattle.model.specs.declared.version.Version.{Version}
 use Rattle.model.specs.Archives.{Rising}
 use Rattle.table.specs.declared.check.TableFault.{TableFault}

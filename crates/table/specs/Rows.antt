@@ -1,7 +1,11 @@
 -- Why a table that is sound means a proper archive.
-use Rattle.std.specs.Prelude.{◌≡◌, ℕ, zero, suc, ◌+◌, ◌-◌, ◌*◌, ◌%◌, ◌^◌, ◌<◌, ◌≤◌, Bool, true, false, cond, ◌&&◌, ◌⊎◌, List, [], ◌∷◌, Some, None, Option, ◌≢◌, nat_le, nat_lt, refl}
+use Rattle.std.specs.Prelude.{◌≡◌, ℕ, zero, suc, ◌+◌, ◌-◌, ◌*◌, ◌%◌, ◌^◌, ◌<◌, ◌≤◌, Bool, true}
+use Rattle.std.specs.Prelude.{false, cond, ◌&&◌, ◌⊎◌, List, [], ◌∷◌, Some, None, Option, ◌≢◌}
+use Rattle.std.specs.Prelude.{nat_le, nat_lt, refl}
 use Rattle.std.proofs.Common.{inl, inr, ⊎_elim, arith}
-use Rattle.std.proofs.lemmas.Bool.{eq-eqb, ne_eqb, eqb-true, ltb-true, ltb-false, leb-true, leb-false, le-ltb, cond-true, cond-false, cond_both, and_parts, and_cases, or_parts}
+use Rattle.std.proofs.lemmas.Bool.{eq-eqb, ne_eqb, eqb-true, ltb-true, ltb-false, leb-true}
+use Rattle.std.proofs.lemmas.Bool.{leb-false, le-ltb, cond-true, cond-false, cond_both, and_parts}
+use Rattle.std.proofs.lemmas.Bool.{and_cases, or_parts}
 use Rattle.model.specs.Archives.{Proper, Rising}
 use Rattle.table.specs.Words.{stamp_of, first_at, second_at, version_at, versions_in}
 use Rattle.table.specs.Words.{low_bits, is_unused, is_wrong, wrong_pair, table_archive}

@@ -1,7 +1,8 @@
 // Versions in words, two words to a version. The first word has the stamp in bits 0 to 61, and
 // bit 63 is set for an absence; the second word has the entry's code, 0 for an absence. Pairs of
 // words are counted from 0, so that pair p begins at word 2 * p. An unused pair is zero.
-ghost use Rattle.std.specs.Prelude.{◌≡◌, ℕ, ◌+◌, ◌*◌, ◌^◌, ◌<◌, ◌≤◌, length, MatchOption, slice_index_or};
+ghost use Rattle.std.specs.Prelude.{◌≡◌, ℕ, ◌+◌, ◌*◌, ◌^◌, ◌<◌, ◌≤◌, length, MatchOption};
+ghost use Rattle.std.specs.Prelude.{slice_index_or};
 ghost use Rattle.model.specs.Archives.{top, latest_of};
 ghost use Rattle.table.specs.Words.{version_of, versions_in, put_at, table_archive, Put};
 

@@ -1,4 +1,5 @@
-use Rattle.std.proofs.Common.{◌∷◌, ◌++◌, get_or, take, vec_items, decimal, sym, ap, ◌∙◌, arith, rules}
+use Rattle.std.proofs.Common.{◌∷◌, ◌++◌, get_or, take, vec_items, decimal, sym, ap, ◌∙◌, arith}
+use Rattle.std.proofs.Common.{rules}
 use Rattle.std.proofs.lemmas.List.{take_all}
 use Rattle.script.specs.Writing.{spaced}
 use Rattle.answer_text.proofs.Appended.{begins_on, joins, spaced_next, appends_err}

@@ -1,5 +1,5 @@
 use Rattle.certifier.specs.Beside.{beside}
-use Rattle.replay.proofs.OfKind.{write-at}
+use Rattle.replay.proofs.OfKind.{write_at}
 use Rattle.replay.proofs.events.write_code.Goals as goal
 
 pub returns-in-Ok : goal.returns-in-Ok
@@ -10,7 +10,7 @@ returns-in-Ok g c =
     let e = c.in-Ok.ensures in
     record {
       arising = tt;
-      does = write-at (beside c.args.certifier.now a room)
+      does = write_at (beside c.args.certifier.now a room)
           (beside c.write.new.self a room) c.args.stamp c.args.attempt
           c.args.granule c.of-kind.result _ c.of-kind.ensures c.args.code
           e.does;
@@ -24,7 +24,7 @@ returns-in-Err g c =
     let e = c.in-Err.ensures in
     record {
       arising = e.arising;
-      does = write-at (beside c.args.certifier.now a room)
+      does = write_at (beside c.args.certifier.now a room)
           (beside c.write.new.self a room) c.args.stamp c.args.attempt
           c.args.granule c.of-kind.result _ c.of-kind.ensures c.args.code
           e.does;

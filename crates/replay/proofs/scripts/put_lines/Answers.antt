@@ -2,7 +2,7 @@ use Rattle.std.proofs.Common.{[], ◌++◌, vec_items, sym, refl, ap, ◌∙◌,
 use Rattle.std.proofs.lemmas.List.{append-nil}
 use Rattle.script.specs.Lines.{lines_of}
 use Rattle.replay.specs.Replays.{sense}
-use Rattle.replay.proofs.Fronts.{front-none, front-more, front-all}
+use Rattle.replay.proofs.Fronts.{front_none, front_more, front_all}
 use Rattle.replay.proofs.scripts.put_lines.Goals as goal
 
 pub loop-cut-init : goal.loop-cut-init
@@ -12,7 +12,7 @@ loop-cut-init g c =
       refl,
       (
         [],
-        front-none σ c.args.certifier.now c.args.store.now
+        front_none σ c.args.certifier.now c.args.store.now
             (lines_of c.args.script.now),
         sym (append-nil (vec_items c.args.out.now)),
       ),
@@ -28,7 +28,7 @@ loop-cut-preserved g c =
       e.lent ∙ c.loop-cut.invariant.1,
       (
         done.0 ++ p.0,
-        front-more σ c.args.certifier.now c.args.store.now
+        front_more σ c.args.certifier.now c.args.store.now
             (lines_of c.args.script.now) (lines_of c.loop-cut.rest.now) done.0
             c.loop-cut.certifier c.loop-cut.store c.in-Some.cut.line.now
             (lines_of c.in-Some.cut.rest.now) p.0
@@ -52,7 +52,7 @@ returns-in-Err g c =
       put = (
         lines_of c.in-Some.cut.rest.now,
         done.0 ++ p.0,
-        front-more σ c.args.certifier.now c.args.store.now
+        front_more σ c.args.certifier.now c.args.store.now
             (lines_of c.args.script.now) (lines_of c.loop-cut.rest.now) done.0
             c.loop-cut.certifier c.loop-cut.store c.in-Some.cut.line.now
             (lines_of c.in-Some.cut.rest.now) p.0
@@ -76,7 +76,7 @@ returns g c =
       lent = inv.1;
       put = (
         done.0,
-        front-all σ c.args.certifier.now c.args.store.now
+        front_all σ c.args.certifier.now c.args.store.now
             (lines_of c.args.script.now) (lines_of c.loop-cut.rest.now) done.0
             c.loop-cut.certifier c.loop-cut.store
             c.in_default.ensures.lines done.1,

@@ -1,7 +1,7 @@
 use Rattle.std.proofs.Common.{arith, rules}
 use Rattle.model.specs.Archives.{version_with}
 use Rattle.model.specs.Stores.{stored}
-use Rattle.pair.proofs.Joined.{first_appended, second-appended}
+use Rattle.pair.proofs.Joined.{first_appended, second_appended}
 use Rattle.pair.proofs.halves.PairStore.append.Goals as goal
 
 pub returns-then-granule-n : goal.returns-then-granule-n
@@ -31,7 +31,7 @@ returns g c =
       sound = search rules;
       lent = search rules;
       same = search rules;
-      appended = second-appended
+      appended = second_appended
           (stored (g.L.Archive.means x) (g.L.Store.room x))
           (stored (g.R.Archive.means y) (g.R.Store.room y))
           c.args.granule (omega arith) (omega arith)
