@@ -11,7 +11,8 @@ import glob
 import re
 import sys
 
-DECLARED = re.compile(r"^(?:abbrev |unfoldable )*(?:pub )?(?:(record|data) )?([^ :({=]+)(?: :| [({]|$)")
+DECLARED = re.compile(
+    r"^(?:abbrev |unfoldable )*(?:pub )?(?:(record|data) )?([^ :({=]+)(?: :| [({]|$)")
 MEMBER = re.compile(r"^ +(?:pub )?([^ :(=]+) : ")
 
 

@@ -38,8 +38,8 @@ impl<L, R> Pair<L, R> {
 impl<L: Archive, R: Archive> Pair<L, R> {
     // Whether both are shown.
     fn shows_both(&self) -> bool
-        requires sound { L.Archive.sound self.now.first }
-        requires sound_2 { R.Archive.sound self.now.second }
+        requires sound_first { L.Archive.sound self.now.first }
+        requires sound_second { R.Archive.sound self.now.second }
         ensures { result ≡ both
             (L.Archive.means self.now.first)
             (R.Archive.means self.now.second) }

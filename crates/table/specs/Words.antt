@@ -1,6 +1,6 @@
 -- How versions stand in words, two words to a version, and when a pair of words is wrong.
 use Rattle.std.specs.Prelude.{◌≡◌, ℕ, zero, suc, ◌+◌, ◌-◌, ◌*◌, ◌%◌, ◌^◌, Bool, true, cond, ◌&&◌}
-use Rattle.std.specs.Prelude.{◌||◌, List, [], ◌∷◌, length, set, Some, None, Ok, Err, Option, Result}
+use Rattle.std.specs.Prelude.{◌||◌, List, [], ◌∷◌, length, Some, None, Ok, Err, Option, Result}
 use Rattle.std.specs.Prelude.{◌==◌, nat_le, nat_lt, slice_index, slice_set}
 use Rattle.model.specs.declared.version.Content.{Content}
 use Rattle.model.specs.declared.version.Content.TheVariants.{Entry, Absence}
@@ -74,7 +74,7 @@ wrong_pair ws p (suc m) last met =
 -- the words with the version v in pair q
 abbrev pub put_at : List ℕ → ℕ → Version → List ℕ
 put_at ws q v =
-    set (slice_set ws (2 * q) (first_word v.stamp v.content)) (2 * q + 1)
+    slice_set (slice_set ws (2 * q) (first_word v.stamp v.content)) (2 * q + 1)
     (second_word v.content)
 
 -- the words with v behind the versions of the d pairs from pair p on
