@@ -1,32 +1,22 @@
 -- Text after text.
 use Rattle.std.proofs.Common.{◌≡◌, ℕ, ◌+◌, ◌<◌, true, List, [], ◌∷◌, ◌++◌, length, get_or, take}
 use Rattle.std.proofs.Common.{is_err, Ok, Err, decimal, Result, sym, refl, ap, ◌∙◌, append_assoc}
-use Rattle.std.proofs.Common.{append-nil}
+use Rattle.std.proofs.Common.{append-nil, codes, arith}
 use Rattle.std.proofs.lemmas.List.{take_more}
 use Rattle.std.proofs.lemmas.Bool.{false≢true}
+use Rattle.std.proofs.lemmas.Fmt.{decimal_step, decimal_digit}
+use Rattle.script.specs.declared.unread.Unread.{Unread}
+use Rattle.script.specs.declared.unread.Unread.TheVariants as U
+use Rattle.script.specs.Unreads.{unread_number}
 use Rattle.script.specs.Writing.{spaced}
 use Rattle.answer_text.specs.Output.{Begins, Appends}
+use Rattle.answer_text.specs.Texts.{unread_line}
 
 pub joins : (a b c s t : List ℕ) → b ≡ a ++ s → c ≡ b ++ t → c ≡ a ++ (s ++ t)
 joins a b c s t p q = q ∙ (ap (λ x. x ++ t) p ∙ append_assoc a s t)
 
-pub begins_on : (a b c s : List ℕ) → b ≡ a ++ s → Begins b c → Begins a c
+begins_on : (a b c s : List ℕ) → b ≡ a ++ s → Begins b c → Begins a c
 begins_on a b c s p h = (s ++ h.0, joins a b c s h.0 p h.1)
-
-pub appends_on : {X E : Type 0} (a b c s t : List ℕ) (r : Result X E) → b ≡ a ++ s
-    → Appends b c t r → Appends a c (s ++ t) r
-appends_on a b c s t (Ok x) p h = joins a b c s t p h
-appends_on a b c s t (Err e) p h = begins_on a b c s p h
-
--- the same with the text as it is asked for
-pub appends_as : {X E : Type 0} (a c t u : List ℕ) (r : Result X E) → Appends a c t r → u ≡ t
-    → Appends a c u r
-appends_as a c t u (Ok x) h e = h ∙ ap (λ x. a ++ x) (sym e)
-appends_as a c t u (Err x) h e = h
-
-pub appends_then : {X E : Type 0} (a b c s t u : List ℕ) (r : Result X E) → b ≡ a ++ s
-    → Appends b c t r → u ≡ s ++ t → Appends a c u r
-appends_then a b c s t u r p h e = appends_as a c (s ++ t) u r (appends_on a b c s t r p h) e
 
 spaced_more : (ns ms : List ℕ) → spaced (ns ++ ms) ≡ spaced ns ++ spaced ms
 spaced_more [] ms = refl
@@ -40,7 +30,24 @@ spaced_next ns i h =
     ap spaced (take_more ns i 0 h) ∙ (spaced_more (take i ns) (get_or ns i 0 ∷ [])
     ∙ ap (λ t. spaced (take i ns) ++ (32 ∷ t)) (append-nil (decimal (get_or ns i 0))))
 
-pub appends_err : {X E : Type 0} (a c u : List ℕ) (r : Result X E) → is_err r ≡ true
-    → Begins a c → Appends a c u r
-appends_err a c u (Ok x) h b = absurd (false≢true h)
-appends_err a c u (Err e) h b = b
+pub ruleset each_number = (spaced_next, joins)
+
+-- where no number more is written, the text is begun
+pub appends_part : {X E : Type 0} (a b c s t : List ℕ) (r : Result X E) → b ≡ a ++ s
+    → Begins b c → is_err r ≡ true → Appends a c t r
+appends_part a b c s t (Ok x) p h e = absurd (false≢true e)
+appends_part a b c s t (Err x) p h e = begins_on a b c s p h
+
+-- the line of what is not read
+unread_text : (w : Unread) → unread_line w ≡ codes "? no" ++ spaced (unread_number w ∷ [])
+unread_text U.Line =
+    rw (decimal_step 16 (omega arith) (omega arith), decimal_digit 1 (omega arith))
+unread_text U.Script =
+    rw (decimal_step 17 (omega arith) (omega arith), decimal_digit 1 (omega arith))
+
+pub appends_unread : {X E : Type 0} (a b c : List ℕ) (w : Unread) (r : Result X E)
+    → b ≡ a ++ (codes "? no" ++ spaced (unread_number w ∷ [])) → Appends b c (10 ∷ []) r
+    → Appends a c (unread_line w ++ (10 ∷ [])) r
+appends_unread a b c w (Ok x) p h =
+    joins a b c _ (10 ∷ []) p h ∙ ap (λ t. a ++ (t ++ (10 ∷ []))) (sym (unread_text w))
+appends_unread a b c w (Err e) p h = begins_on a b c _ p h

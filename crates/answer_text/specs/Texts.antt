@@ -11,6 +11,8 @@ use Rattle.model.specs.declared.answer.Step.TheVariants as S
 use Rattle.model.specs.declared.phase.Phase.{Phase}
 use Rattle.model.specs.declared.phase.Phase.TheVariants as P
 use Rattle.model.specs.Numbers.{phase_number, refusal_number, returned}
+use Rattle.script.specs.declared.unread.Unread.{Unread}
+use Rattle.script.specs.declared.unread.Unread.TheVariants as U
 use Rattle.script.specs.Events.{Said, letter_of}
 use Rattle.script.specs.Writing.{spaced, named}
 
@@ -90,3 +92,7 @@ unreadable_line = codes "? no 16"
 
 abbrev pub too_long_line : List ℕ
 too_long_line = codes "? no 17"
+
+abbrev pub unread_line : Unread → List ℕ
+unread_line U.Line = unreadable_line
+unread_line U.Script = too_long_line

@@ -1,14 +1,14 @@
-// Lines of the output.
+// Lines of the output. Each function is given the output, and an answer also the event that it is
+// of, which is the caller's: a struct of the two would hold two loans.
 ghost use Rattle.std.specs.Prelude.{[], ◌∷◌, ◌++◌};
 ghost use Rattle.script.specs.Events.{said};
 ghost use Rattle.answer_text.specs.Output.{Appends};
-ghost use Rattle.answer_text.specs.Texts.{outcome_text, answer_line};
-ghost use Rattle.answer_text.specs.Texts.{unreadable_line, too_long_line};
+ghost use Rattle.answer_text.specs.Texts.{outcome_text, answer_line, unread_line};
 
-use crate::push::{push_byte, push_bytes};
+use crate::push::{push_byte, push_word};
 use crate::replies::{push_refusal, push_reply};
 use model::{Refusal, Reply};
-use script::Event;
+use script::{Event, Unread};
 use std::alloc::AllocError;
 
 fn push_outcome(
@@ -41,20 +41,13 @@ pub fn push_answer(
     push_byte(out, b'\n')
 }
 
-// The answer to a line that is no event.
-pub fn push_unreadable(out: &mut Vec<u8>) -> Result<(), AllocError>
+// The answer to a line that is no event, or to a script that is too long.
+#[tactic(auto, using(crate::proofs::Appended::appends_unread))]
+pub fn push_unread(out: &mut Vec<u8>, why: Unread) -> Result<(), AllocError>
     ensures { Appends
         out.old.items out.new.items
-        (unreadable_line ++ (10 ∷ [])) result }
+        (unread_line why ++ (10 ∷ [])) result }
 {
-    push_bytes(out, b"? no 16\n")
-}
-
-// The answer to a script that is too long.
-pub fn push_too_long(out: &mut Vec<u8>) -> Result<(), AllocError>
-    ensures { Appends
-        out.old.items out.new.items
-        (too_long_line ++ (10 ∷ [])) result }
-{
-    push_bytes(out, b"? no 17\n")
+    push_word(out, b"? no", &[u64::from(why.number())])?;
+    push_byte(out, b'\n')
 }

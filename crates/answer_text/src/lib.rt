@@ -5,4 +5,4 @@ mod answers;
 mod push;
 mod replies;
 
-pub use answers::{push_answer, push_too_long, push_unreadable};
+pub use answers::{push_answer, push_unread};

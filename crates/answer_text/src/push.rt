@@ -3,14 +3,14 @@ ghost use Rattle.std.specs.Prelude.{[], ◌∷◌, ◌++◌, decimal};
 ghost use Rattle.script.specs.Writing.{spaced};
 ghost use Rattle.answer_text.specs.Output.{Appends};
 
+use itoa::Buffer;
 use std::alloc::AllocError;
 
 pub(crate) fn push_byte(out: &mut Vec<u8>, byte: u8) -> Result<(), AllocError>
     ensures { Appends
         out.old.items out.new.items (byte ∷ []) result }
 {
-    out.push(byte)?;
-    Ok(())
+    push_bytes(out, &[byte])
 }
 
 pub(crate) fn push_bytes(out: &mut Vec<u8>, bytes: &[u8]) -> Result<(), AllocError>
@@ -20,16 +20,12 @@ pub(crate) fn push_bytes(out: &mut Vec<u8>, bytes: &[u8]) -> Result<(), AllocErr
     out.extend_from_slice(bytes)
 }
 
-// A number in decimal, from the first digit on.
+// A number in decimal.
 fn push_number(out: &mut Vec<u8>, n: u64) -> Result<(), AllocError>
     ensures { Appends
         out.old.items out.new.items (decimal n) result }
 {
-    if n < 10 {
-        return push_byte(out, b'0' + n as u8);
-    }
-    push_number(out, n / 10)?;
-    push_byte(out, b'0' + (n % 10) as u8)
+    push_bytes(out, Buffer::new().format(n).as_bytes())
 }
 
 // A number after a space.
@@ -42,6 +38,7 @@ fn push_spaced(out: &mut Vec<u8>, n: u64) -> Result<(), AllocError>
 }
 
 // Each number after a space.
+#[tactic(auto, using(crate::proofs::Appended::each_number))]
 fn push_numbers(out: &mut Vec<u8>, numbers: &[u64]) -> Result<(), AllocError>
     ensures { Appends
         out.old.items out.new.items
@@ -54,6 +51,7 @@ fn push_numbers(out: &mut Vec<u8>, numbers: &[u64]) -> Result<(), AllocError>
 }
 
 // A word, and each number after a space.
+// `Display` is no plainer: `write!` into a `Vec<u8>` fails with an `io` error, not `AllocError`.
 pub(crate) fn push_word(out: &mut Vec<u8>, word: &[u8], numbers: &[u64]) -> Result<(), AllocError>
     ensures { Appends
         out.old.items out.new.items

@@ -1,4 +1,5 @@
 // What follows the letter of an answered line.
+// A `usize` is a `u64` by `as`: it has no `From`, and `try_from` adds a failure that never comes.
 ghost use Rattle.script.specs.Events.{said};
 ghost use Rattle.script.specs.Writing.{named};
 ghost use Rattle.answer_text.specs.Output.{Appends};
@@ -33,7 +34,7 @@ fn push_phase(out: &mut Vec<u8>, phase: Phase) -> Result<(), AllocError>
     match phase {
         Phase::Waiting => push_word(out, b" ok wait", &[]),
         Phase::Section => push_word(out, b" ok sect", &[]),
-        _ => push_word(out, b" ok", &[phase.number() as u64]),
+        _ => push_word(out, b" ok", &[u64::from(phase.number())]),
     }
 }
 
@@ -58,7 +59,7 @@ fn push_status(out: &mut Vec<u8>, status: Status) -> Result<(), AllocError>
     ensures { Appends
         out.old.items out.new.items (status_text status) result }
 {
-    let phase = status.phase.number() as u64;
+    let phase = u64::from(status.phase.number());
     let older = status.older as u64;
     push_word(
         out,
@@ -95,17 +96,17 @@ pub(crate) fn push_refusal(out: &mut Vec<u8>, refusal: Refusal) -> Result<(), Al
     ensures { Appends
         out.old.items out.new.items (refusal_text refusal) result }
 {
-    let number = refusal.number() as u64;
+    let number = u64::from(refusal.number());
     match refusal {
         Refusal::BadStamp { last } => push_word(out, b" no", &[number, last]),
         Refusal::OldAttempt { present } => push_word(out, b" no", &[number, present]),
         Refusal::WrongPhase { phase } => {
-            push_word(out, b" no", &[number, phase.number() as u64])
+            push_word(out, b" no", &[number, u64::from(phase.number())])
         }
         Refusal::InSection { stamp } => push_word(out, b" no", &[number, stamp]),
         Refusal::Store { granule, fault } => {
-            let cause = fault.cause.number() as u64;
-            let layer = fault.layer as u64;
+            let cause = u64::from(fault.cause.number());
+            let layer = u64::from(fault.layer);
             let place = fault.granule as u64;
             push_word(out, b" no", &[number, granule as u64, cause, layer, place])
         }

@@ -4,4 +4,4 @@
 mod list;
 mod ops;
 
-pub use list::Bounded;
+pub use list::{Bounded, Full};

@@ -1,9 +1,10 @@
 // What can be done with it. Nothing here allocates, and nothing is asked of the caller.
 ghost use Rattle.std.specs.Prelude.{◌≡◌, ◌<◌, [], ◌∷◌, ◌++◌, length, if◌then◌else◌, nat_lt};
 ghost use Rattle.std.specs.Prelude.{slice_set};
+ghost use Rattle.std.specs.Result.{is_ok};
 ghost use Rattle.bounded.specs.Listed.{listed};
 
-use crate::list::Bounded;
+use crate::list::{Bounded, Full};
 
 impl<T: Copy, const N: usize> Bounded<T, N> {
     // An empty list; the blank fills the memory that is not in use.
@@ -26,8 +27,7 @@ impl<T: Copy, const N: usize> Bounded<T, N> {
     pub fn as_slice(&self) -> &[T]
         ensures { result.now ≡ listed self.now }
     {
-        let all = &self.items[..];
-        &all[0..self.used]
+        &self.items[..self.used]
     }
 
     pub fn clear(&mut self)
@@ -36,42 +36,27 @@ impl<T: Copy, const N: usize> Bounded<T, N> {
         self.used = 0;
     }
 
-    // Writes item i of those in use.
-    fn put(&mut self, i: usize, item: T)
-        requires { i < self.old.used }
-        ensures { listed self.new ≡ slice_set (listed self.old) i item }
-    {
-        self.items[i] = item;
-    }
-
-    // Writes one item more.
-    fn add(&mut self, item: T)
-        requires { self.old.used < N }
-        ensures { listed self.new ≡ listed self.old ++ (item ∷ []) }
-    {
-        self.items[self.used] = item;
-        self.used += 1;
-    }
-
     // Replaces item i, where there is one.
+    #[tactic(auto, using(crate::proofs::Facts::take_set_in))]
     pub fn set(&mut self, i: usize, item: T)
         ensures { listed self.new ≡ slice_set (listed self.old) i item }
     {
         if i < self.used {
-            self.put(i, item);
+            self.items[i] = item;
         }
     }
 
-    // One item more; false where the list is full, which leaves it as it is.
-    pub fn push(&mut self, item: T) -> bool
-        ensures pushed { result ≡ nat_lt (length (listed self.old)) N }
+    // One item more. A list that is full stays as it is.
+    pub fn push(&mut self, item: T) -> Result<(), Full>
+        ensures pushed { is_ok result ≡ nat_lt (length (listed self.old)) N }
         ensures items { listed self.new
-            ≡ (if result then listed self.old ++ (item ∷ []) else listed self.old) }
+            ≡ (if is_ok result then listed self.old ++ (item ∷ []) else listed self.old) }
     {
-        if self.len() >= N {
-            return false;
+        if self.used >= N {
+            return Err(Full);
         }
-        self.add(item);
-        true
+        self.items[self.used] = item;
+        self.used += 1;
+        Ok(())
     }
 }

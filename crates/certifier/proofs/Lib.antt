@@ -1,6 +1,5 @@
 mod Rules
 mod Present
-mod Granules
 mod Does
 mod Reading
 mod Writing

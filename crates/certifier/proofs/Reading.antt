@@ -1,73 +1,41 @@
 -- The lines of the table for a read, and the note that it takes.
-use Rattle.std.proofs.Common.{◌≡◌, ℕ, Bool, true, false, eqb, ltb, [], ◌∷◌, get_or, set, Some, None}
+use Rattle.std.proofs.Common.{◌≡◌, ℕ, Bool, true, false, eqb, ltb, [], ◌∷◌, Some, None}
 use Rattle.std.proofs.Common.{Option, sym, refl, ap, ◌∙◌, arith}
-use Rattle.std.proofs.lemmas.List.{set-get_or}
 use Rattle.std.proofs.lemmas.Bool.Decides.{nat_tests}
 use Rattle.model.specs.declared.version.Content.{Content}
 use Rattle.model.specs.declared.version.Version.{Version}
-use Rattle.model.specs.declared.fault.Cause.{Cause}
-use Rattle.model.specs.declared.fault.Cause.TheVariants.{OutOfReach}
-use Rattle.model.specs.Numbers.{cause_number}
-use Rattle.model.specs.Archives.{Archived, granule_fault, newest}
+use Rattle.model.specs.Archives.{granule_fault, newest}
 use Rattle.model.specs.Slots as M
 use Rattle.model.specs.Worlds.{World, with_slots}
 use Rattle.model.specs.Refusals.{Refused, refusal, on_granule, on_reading, not_told, note_65}
 use Rattle.model.specs.Refusals.{read_code, foreign_code}
 use Rattle.model.specs.Calls.{noting_read, Does, call_read, refused, rules}
-use Rattle.slot.specs.Means.{Stands}
 use Rattle.slot.specs.Changes.{noted}
-use Rattle.certifier.specs.declared.certifier.Certifier.{Certifier}
-use Rattle.certifier.specs.Beside.{beside, slots_in, SlotSet}
+use Rattle.slot.proofs.Places.{adjust_as, adjust_kept}
 use Rattle.certifier.proofs.Rules.{past, stop, No15, not_15}
-
--- a certifier with one slot set, beside its store
-pub set_world : (c c' : Certifier) (a : Archived) (room : ℕ → ℕ) (i : ℕ) (x : M.Slot)
-    → SlotSet c c' i x
-    → beside c' a room ≡ with_slots (set (slots_in c) i x) (beside c a room)
-set_world c c' a room i x s = cc
 
 -- a granule that a call works on exists
 exists : (w : World) (t a g : ℕ) → refusal (on_granule w t a g) ≡ None
     → ltb g w.store.archive.count ≡ true
 exists w t a g p = grind (arith, nat_tests)
 
-module _ (w : World) (t a g i : ℕ) (x : M.Slot) (p : refusal (on_granule w t a g) ≡ None)
-    (s : Stands t w.slots i) (q : x ≡ get_or w.slots i M.free_slot) where
-  held : M.held t w.slots ≡ Some x
-  held = s.held ∙ ap Some (sym q)
-
+module _ (w : World) (t a g : ℕ) (x : M.Slot) (p : refusal (on_granule w t a g) ≡ None)
+    (held : M.held t w.slots ≡ Some x) where
   rest : refusal (on_reading w t a g) ≡ refusal (not_told w t g ∷ note_65 w t g ∷ [])
   rest = past (on_granule w t a g) (not_told w t g ∷ note_65 w t g ∷ []) p
-
-  same : set w.slots i x ≡ w.slots
-  same = ap (set w.slots i) q ∙ set-get_or w.slots i M.free_slot
 
   pub own_read : (c : Content) → Some c ≡ M.own g x.writes
       → (refusal (on_reading w t a g) ≡ None) × (M.code_of c ≡ read_code w t g)
       × (w ≡ noting_read t g w)
   own_read c o =
-      let k = s.changes (M.with_notes x.notes) in
-      let e = sym o in (
+      let e = sym o in
+      let k = adjust_kept t (M.with_notes x.notes) w.slots x held refl in (
         rest ∙ rw (held, e),
         rw (held, e),
-        rw (held, e, k, ← q) (ap (λ ys. with_slots ys w) (sym same)),
+        rw (held, e) (ap (λ ys. with_slots ys w) (sym k)),
       )
 
   module _ (o : None ≡ M.own g x.writes) where
-    pub not_reached : (c : Cause) → granule_fault w.store.archive g ≡ Some c
-        → refusal (on_reading w t a g) ≡ Some (11, g ∷ cause_number c ∷ [])
-    not_reached c f = go (w.store.archive.reach g) refl
-      where
-        go : (b : Bool) → w.store.archive.reach g ≡ b
-            → refusal (on_reading w t a g) ≡ Some (11, g ∷ cause_number c ∷ [])
-        go true r = let n = exists w t a g p in absurd (grind (arith, nat_tests))
-        go false r =
-            let n = exists w t a g p in
-            let d = rw (n, r) at f in
-            let z : OutOfReach ≡ c = cc in
-            let e = sym o in
-            rw (← z) (rest ∙ rw (held, e, r))
-
     module _ (f : granule_fault w.store.archive g ≡ None) where
       reached : w.store.archive.reach g ≡ true
       reached = grind (arith, nat_tests)
@@ -79,17 +47,18 @@ module _ (w : World) (t a g i : ℕ) (x : M.Slot) (p : refusal (on_granule w t a
       pub told : M.note_fits g x.notes ≡ true → (v : Option Version)
           → v ≡ newest (w.store.archive.history g)
           → (refusal (on_reading w t a g) ≡ None) × (M.answer_of v ≡ read_code w t g)
-          × (with_slots (set w.slots i (noted g x)) w ≡ noting_read t g w)
+          × (with_slots (M.adjust t (noted g) w.slots) w ≡ noting_read t g w)
       told n v e =
           let d = sym o in
-          let k = s.changes (M.with_notes (M.note g x.notes)) in (
+          let k = adjust_as t (noted g) (M.with_notes (M.note g x.notes)) w.slots x held (rw n) in (
             rest ∙ rw (held, d, reached, n),
             rw (held, d) (ap M.answer_of e),
-            rw (held, d, n, k, ← q),
+            rw (held, d) (ap (λ ys. with_slots ys w) k),
           )
 
-  pub kept : M.note_fits g x.notes ≡ false → with_slots (set w.slots i (noted g x)) w ≡ w
-  kept n = rw n (ap (λ ys. with_slots ys w) same)
+  pub kept : M.note_fits g x.notes ≡ false
+      → with_slots (M.adjust t (noted g) w.slots) w ≡ w
+  kept n = ap (λ ys. with_slots ys w) (adjust_kept t (noted g) w.slots x held (rw n))
 
 -- a refusal but for the code's kind keeps no note
 pub read_refused : (w w' : World) (t a g : ℕ) (kind : ℕ → Bool) (r : Refused)

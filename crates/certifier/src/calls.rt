@@ -1,16 +1,28 @@
-// The calls of a transaction's life, and those that ask nothing of one.
+// The calls of a transaction's life, and those that ask nothing of one. Each is given the store,
+// and says what then holds of both and where a fault arose: facts of a call, and not of a type.
 ghost use Rattle.std.specs.Prelude.{◌≡◌, IfOk, OnErr};
 ghost use Rattle.model.specs.declared.answer.Reply.TheVariants as Y;
 ghost use Rattle.model.specs.Calls as M;
+ghost use Rattle.slot.specs.Means.{slot_of};
 ghost use Rattle.certifier.specs.Beside.{beside, JustMade};
 
 use crate::certifier::Certifier;
-use model::{Opened, Phase, Plan, Refusal, Status, Step};
-use slot::{Change, Slot, apply, free_place, older_live, plan_of, release, step_of};
+use model::{Attempt, Opened, Phase, Plan, Refusal, STAMP_LIMIT, Status, Step, Version, Write};
+use slot::{Slot, apply, enter_section, older_live, plan_of, release, take_free, wait};
 use store::{Archive, Store};
 
-// Stamps run below this.
-const STAMP_LIMIT: u64 = 0x4000_0000_0000_0000;
+// Where the transaction in a slot stands, with so many older ones.
+#[tactic(auto, using(crate::proofs::Does::phase_again))]
+fn status_of(slot: &Slot, older: usize) -> Status
+    ensures { result ≡ M.status_of (slot_of slot.now) older }
+{
+    Status {
+        phase: slot.phase,
+        attempt: slot.attempt,
+        older,
+        notes: slot.notes.len(),
+    }
+}
 
 impl Certifier {
     // A certifier that is not opened yet, with all slots free.
@@ -18,8 +30,7 @@ impl Certifier {
         ensures { JustMade result }
     {
         Certifier {
-            opened: false,
-            last: 0,
+            last: None,
             slots: [Slot::free(); 32],
         }
     }
@@ -35,12 +46,11 @@ impl Certifier {
             (beside self.new
             (S.Archive.means store.now) (S.Store.room store.now)) }
     {
-        if self.opened {
+        if self.last.is_some() {
             return Err(Refusal::AlreadyOpened);
         }
         let last = store.latest();
-        self.opened = true;
-        self.last = last;
+        self.last = Some(last);
         Ok(Opened {
             granules: store.granules(),
             last,
@@ -57,74 +67,49 @@ impl Certifier {
             (beside self.new
             (S.Archive.means store.now) (S.Store.room store.now)) }
     {
-        if !self.opened {
-            return Err(Refusal::NotOpened);
+        let last = self.last.ok_or(Refusal::NotOpened)?;
+        if stamp == 0 || stamp >= STAMP_LIMIT || stamp <= last {
+            return Err(Refusal::BadStamp { last });
         }
-        if stamp == 0 || stamp >= STAMP_LIMIT || stamp <= self.last {
-            return Err(Refusal::BadStamp { last: self.last });
-        }
-        let Some(i) = free_place(&self.slots[..]) else {
-            return Err(Refusal::NoFreeSlot);
-        };
-        self.begin_at(i, stamp);
-        self.last = stamp;
+        take_free(&mut self.slots[..], stamp).map_err(|_| Refusal::NoFreeSlot)?;
+        self.last = Some(stamp);
         Ok(1)
     }
 
     // Goes into its section if no older transaction is live, else it waits.
-    pub fn commit<S: Store>(
-        &mut self,
-        store: &S,
-        stamp: u64,
-        attempt: u64,
-    ) -> Result<Phase, Refusal>
+    pub fn commit<S: Store>(&mut self, store: &S, by: Attempt) -> Result<Phase, Refusal>
         ensures arising { M.Arising (λ _ _. ⊥) result }
         ensures does { M.Does
             (beside self.old
             (S.Archive.means store.now) (S.Store.room store.now))
-            (M.call_commit stamp attempt) (M.outcome Y.Committing result)
+            (M.call_commit by.stamp by.number) (M.outcome Y.Committing result)
             (beside self.new
             (S.Archive.means store.now) (S.Store.room store.now)) }
     {
-        if !self.opened {
-            return Err(Refusal::NotOpened);
-        }
-        let i = match self.running(stamp, attempt) {
-            Ok(i) => i,
-            Err(refusal) => return Err(refusal),
-        };
-        if older_live(&self.slots[..], stamp) == 0 {
-            self.change_at(i, Change::EnterSection);
+        self.last.ok_or(Refusal::NotOpened)?;
+        self.running(by)?;
+        if older_live(&self.slots[..], by.stamp) == 0 {
+            enter_section(&mut self.slots[..], by.stamp);
             Ok(Phase::Section)
         } else {
-            self.change_at(i, Change::Wait);
+            wait(&mut self.slots[..], by.stamp);
             Ok(Phase::Waiting)
         }
     }
 
     // Frees the slot of a running or waiting transaction, then wakes.
-    pub fn roll_back<S: Store>(
-        &mut self,
-        store: &S,
-        stamp: u64,
-        attempt: u64,
-    ) -> Result<(), Refusal>
+    pub fn roll_back<S: Store>(&mut self, store: &S, by: Attempt) -> Result<(), Refusal>
         ensures arising { M.Arising (λ _ _. ⊥) result }
         ensures does { M.Does
             (beside self.old
             (S.Archive.means store.now) (S.Store.room store.now))
-            (M.call_roll_back stamp attempt) (M.outcome (λ _. Y.RolledBack) result)
+            (M.call_roll_back by.stamp by.number) (M.outcome (λ _. Y.RolledBack) result)
             (beside self.new
             (S.Archive.means store.now) (S.Store.room store.now)) }
     {
-        if !self.opened {
-            return Err(Refusal::NotOpened);
-        }
-        match self.not_in_section(stamp, attempt) {
-            Ok(_) => {}
-            Err(refusal) => return Err(refusal),
-        }
-        release(&mut self.slots[..], stamp);
+        self.last.ok_or(Refusal::NotOpened)?;
+        self.not_in_section(by)?;
+        release(&mut self.slots[..], by.stamp);
         Ok(())
     }
 
@@ -138,15 +123,10 @@ impl Certifier {
             (beside self.now
             (S.Archive.means store.now) (S.Store.room store.now)) }
     {
-        if !self.opened {
-            return Err(Refusal::NotOpened);
-        }
-        let i = match self.held(stamp) {
-            Ok(i) => i,
-            Err(refusal) => return Err(refusal),
-        };
+        self.last.ok_or(Refusal::NotOpened)?;
+        let slot = self.held(stamp)?;
         let older = older_live(&self.slots[..], stamp);
-        Ok(self.status_at(i, older))
+        Ok(status_of(slot, older))
     }
 
     // Hands a notice to the store.
@@ -167,9 +147,7 @@ impl Certifier {
             (beside self.new
             (S.Archive.means store.new) (S.Store.room store.new)) }
     {
-        if !self.opened {
-            return Err(Refusal::NotOpened);
-        }
+        self.last.ok_or(Refusal::NotOpened)?;
         store.notice(number);
         Ok(())
     }
@@ -189,17 +167,14 @@ impl Certifier {
             (beside self.new
             (S.Archive.means store.new) (S.Store.room store.new)) }
     {
-        if !self.opened {
-            return Err(Refusal::NotOpened);
-        }
+        self.last.ok_or(Refusal::NotOpened)?;
         let plan = plan_of(&self.slots[..]);
         if let Plan::Put { stamp, write } = plan {
-            let granule = write.granule;
-            if let Err(fault) = store.append(granule, stamp, write.content) {
-                return Err(Refusal::Store { granule, fault });
-            }
+            let Write { granule, content } = write;
+            let put = store.append(granule, Version { stamp, content });
+            put.map_err(|fault| Refusal::Store { granule, fault })?;
         }
         apply(&mut self.slots[..], plan);
-        Ok(step_of(plan))
+        Ok(Step::from(plan))
     }
 }

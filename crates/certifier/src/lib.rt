@@ -4,7 +4,6 @@
 
 pub mod calls;
 pub mod certifier;
-mod places;
 pub mod reads;
 mod turns;
 pub mod writes;

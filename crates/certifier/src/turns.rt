@@ -1,119 +1,97 @@
-// Whose call it is: the lines of the table of refusals that most calls share.
-ghost use Rattle.std.specs.Prelude.{◌≡◌, ◌<◌, [], ◌∷◌, IfOk};
+// Whose call it is: the lines of the table of refusals that most calls share. Each hands out the
+// slot of the call's own transaction: a fact of result, certifier and call, so that it stands in a
+// clause, and in no type.
+ghost use Rattle.std.specs.Prelude.{◌≡◌, [], ◌∷◌, IfOk, Some};
+ghost use Rattle.model.specs.Slots as M;
 ghost use Rattle.model.specs.Refusals.{no_transaction, of_attempt, of_phase};
 ghost use Rattle.model.specs.Refusals.{on_granule, running, running_or_waiting};
-ghost use Rattle.model.specs.Calls.{Arising};
+ghost use Rattle.slot.specs.Means.{slot_of};
 ghost use Rattle.certifier.specs.Beside.{slots_in, beside};
-ghost use Rattle.certifier.specs.Ruled.{Ruled};
+ghost use Rattle.certifier.specs.Ruled.{HandsOut, Passes, PassesPhase};
 
 use crate::certifier::Certifier;
-use model::{Phase, Refusal};
-use slot::{find, other_section};
+use model::{Attempt, Phase, Refusal};
+use slot::{Slot, held, other_section};
 use store::{Archive, Store};
 
 impl Certifier {
-    // The place of a transaction's slot.
-    pub(crate) fn held(&self, stamp: u64) -> Result<usize, Refusal>
-        ensures within { IfOk result (λ i. i < 32) }
-        ensures arising { Arising (λ _ _. ⊥) result }
-        ensures ruled { Ruled
-            (no_transaction (slots_in self.now) stamp ∷ [])
-            stamp (slots_in self.now) result }
+    // The slot of a transaction.
+    pub(crate) fn held(&self, stamp: u64) -> Result<&Slot, Refusal>
+        ensures passes { Passes (no_transaction (slots_in self.now) stamp ∷ []) result }
+        ensures held { HandsOut stamp (slots_in self.now) result }
     {
-        match find(&self.slots[..], stamp) {
-            Some(i) => Ok(i),
-            None => Err(Refusal::NoSuchTransaction),
-        }
+        held(&self.slots[..], stamp).ok_or(Refusal::NoSuchTransaction)
     }
 
     // The same, where this is its present attempt.
-    pub(crate) fn present(&self, stamp: u64, attempt: u64) -> Result<usize, Refusal>
-        ensures within { IfOk result (λ i. i < 32) }
-        ensures arising { Arising (λ _ _. ⊥) result }
-        ensures ruled { Ruled
-            (of_attempt (slots_in self.now) stamp attempt)
-            stamp (slots_in self.now) result }
+    fn present(&self, by: Attempt) -> Result<&Slot, Refusal>
+        ensures passes { Passes (of_attempt (slots_in self.now) by.stamp by.number) result }
+        ensures held { HandsOut by.stamp (slots_in self.now) result }
     {
-        let i = match self.held(stamp) {
-            Ok(i) => i,
-            Err(refusal) => return Err(refusal),
-        };
-        let slot = &self.slots[i];
-        let present = slot.attempt;
-        if present != attempt {
-            return Err(Refusal::OldAttempt { present });
+        let slot = self.held(by.stamp)?;
+        if slot.attempt != by.number {
+            return Err(Refusal::OldAttempt {
+                present: slot.attempt,
+            });
         }
-        Ok(i)
+        Ok(slot)
     }
 
-    // The place of a running transaction's slot.
-    pub(crate) fn running(&self, stamp: u64, attempt: u64) -> Result<usize, Refusal>
-        ensures within { IfOk result (λ i. i < 32) }
-        ensures arising { Arising (λ _ _. ⊥) result }
-        ensures ruled { Ruled
-            (of_phase (slots_in self.now) stamp attempt running)
-            stamp (slots_in self.now) result }
+    // The same, where the transaction is in a phase that the call needs.
+    fn in_phase<F: FnOnce(Phase) -> bool>(&self, by: Attempt, needed: F) -> Result<&Slot, Refusal>
+        requires { F.IsAlwaysCallable needed }
+        ensures passes { PassesPhase (F.post needed)
+            (slots_in self.now) by.stamp by.number result }
+        ensures held { HandsOut by.stamp (slots_in self.now) result }
     {
-        let i = match self.present(stamp, attempt) {
-            Ok(i) => i,
-            Err(refusal) => return Err(refusal),
-        };
-        let slot = &self.slots[i];
-        match slot.phase {
-            Phase::Running => Ok(i),
-            phase => Err(Refusal::WrongPhase { phase }),
+        let slot = self.present(by)?;
+        let phase = slot.phase;
+        if !needed(phase) {
+            return Err(Refusal::WrongPhase { phase });
         }
+        Ok(slot)
+    }
+
+    // The slot of a running transaction.
+    pub(crate) fn running(&self, by: Attempt) -> Result<&Slot, Refusal>
+        ensures passes { Passes
+            (of_phase (slots_in self.now) by.stamp by.number running) result }
+        ensures held { HandsOut by.stamp (slots_in self.now) result }
+    {
+        self.in_phase(by, Phase::is_running)
     }
 
     // The same, of a running or waiting transaction.
-    pub(crate) fn not_in_section(&self, stamp: u64, attempt: u64) -> Result<usize, Refusal>
-        ensures within { IfOk result (λ i. i < 32) }
-        ensures arising { Arising (λ _ _. ⊥) result }
-        ensures ruled { Ruled
-            (of_phase (slots_in self.now) stamp attempt running_or_waiting)
-            stamp (slots_in self.now) result }
+    pub(crate) fn not_in_section(&self, by: Attempt) -> Result<&Slot, Refusal>
+        ensures passes { Passes
+            (of_phase (slots_in self.now) by.stamp by.number running_or_waiting) result }
+        ensures held { HandsOut by.stamp (slots_in self.now) result }
     {
-        let i = match self.present(stamp, attempt) {
-            Ok(i) => i,
-            Err(refusal) => return Err(refusal),
-        };
-        let slot = &self.slots[i];
-        match slot.phase {
-            Phase::Running | Phase::Waiting => Ok(i),
-            phase => Err(Refusal::WrongPhase { phase }),
-        }
+        self.in_phase(by, Phase::is_running_or_waiting)
     }
 
-    // The place of a running transaction's slot that may work on the granule.
+    // The slot of a running transaction that may work on the granule.
     pub(crate) fn on_granule<S: Store>(
         &self,
         store: &S,
-        stamp: u64,
-        attempt: u64,
+        by: Attempt,
         granule: usize,
-    ) -> Result<usize, Refusal>
+    ) -> Result<&Slot, Refusal>
         requires { S.Archive.sound store.now }
-        ensures within { IfOk result (λ i. i < 32) }
-        ensures arising { Arising (λ _ _. ⊥) result }
-        ensures ruled { Ruled
+        ensures passes { Passes
             (on_granule (beside self.now
             (S.Archive.means store.now) (S.Store.room store.now))
-            stamp attempt granule)
-            stamp (slots_in self.now) result }
+            by.stamp by.number granule) result }
+        ensures held { HandsOut by.stamp (slots_in self.now) result }
     {
-        if !self.opened {
-            return Err(Refusal::NotOpened);
-        }
+        self.last.ok_or(Refusal::NotOpened)?;
         if granule >= store.granules() {
             return Err(Refusal::NoSuchGranule);
         }
-        let i = match self.running(stamp, attempt) {
-            Ok(i) => i,
-            Err(refusal) => return Err(refusal),
-        };
-        match other_section(&self.slots[..], stamp, granule) {
+        let slot = self.running(by)?;
+        match other_section(&self.slots[..], by.stamp, granule) {
             Some(stamp) => Err(Refusal::InSection { stamp }),
-            None => Ok(i),
+            None => Ok(slot),
         }
     }
 }

@@ -1,62 +1,50 @@
 // Writing and erasing.
-ghost use Rattle.std.specs.Prelude.{◌≡◌, ◌<◌, true, is_some, IfOk};
+ghost use Rattle.std.specs.Prelude.{◌≡◌, true, is_some, IfOk};
 ghost use Rattle.model.specs.declared.answer.Reply.TheVariants as Y;
+ghost use Rattle.model.specs.Worlds.{slot_with};
 ghost use Rattle.model.specs.Refusals.{on_writing};
 ghost use Rattle.model.specs.Calls as M;
 ghost use Rattle.slot.specs.Changes.{write_fits};
-ghost use Rattle.certifier.specs.Beside.{slots_in, slot_at, beside};
-ghost use Rattle.certifier.specs.Ruled.{Ruled};
+ghost use Rattle.certifier.specs.Beside.{slots_in, beside};
+ghost use Rattle.certifier.specs.Ruled.{Passes};
 
 use crate::certifier::Certifier;
 use kind::EntryKind;
-use model::{Content, Refusal};
-use slot::other_writers;
+use model::{Attempt, Content, Refusal};
+use slot::{other_writers, record};
 use store::{Archive, Store};
 
 impl Certifier {
-    // The place of a transaction's slot that may record a write of the granule.
-    fn on_writing<S: Store>(
-        &self,
-        store: &S,
-        stamp: u64,
-        attempt: u64,
-        granule: usize,
-    ) -> Result<usize, Refusal>
+    // Whether a write of the granule may be recorded, and has a place.
+    fn on_writing<S: Store>(&self, store: &S, by: Attempt, granule: usize) -> Result<(), Refusal>
         requires { S.Archive.sound store.now }
-        ensures within { IfOk result (λ i. i < 32) }
-        ensures arising { M.Arising (λ _ _. ⊥) result }
-        ensures ruled { Ruled
+        ensures passes { Passes
             (on_writing (beside self.now
             (S.Archive.means store.now) (S.Store.room store.now))
-            stamp attempt granule)
-            stamp (slots_in self.now) result }
-        ensures fits { IfOk result
-            (λ i. write_fits granule (slot_at self.now i).writes ≡ true) }
+            by.stamp by.number granule) result }
+        ensures fits { IfOk result (λ _. write_fits granule
+            (slot_with (slots_in self.now) by.stamp).writes ≡ true) }
     {
-        let i = match self.on_granule(store, stamp, attempt, granule) {
-            Ok(i) => i,
-            Err(refusal) => return Err(refusal),
-        };
-        let slot = &self.slots[i];
+        let slot = self.on_granule(store, by, granule)?;
         if slot.own(granule).is_some() {
-            return Ok(i);
+            return Ok(());
         }
         if slot.writes.len() >= 16 {
             return Err(Refusal::TooManyWrites);
         }
-        let others = other_writers(&self.slots[..], stamp, granule);
+        let others = other_writers(&self.slots[..], by.stamp, granule);
         if store.free_places(granule) <= others {
             return Err(Refusal::NoFreePlace);
         }
-        Ok(i)
+        Ok(())
     }
 
     // Records an entry, by its code; a later one replaces the earlier.
+    #[tactic(auto, using(crate::proofs::Writing::recorded_as))]
     pub fn write<S: Store, K: EntryKind>(
         &mut self,
         store: &S,
-        stamp: u64,
-        attempt: u64,
+        by: Attempt,
         granule: usize,
         kind: &K,
         code: u64,
@@ -66,45 +54,34 @@ impl Certifier {
         ensures does { M.Does
             (beside self.old
             (S.Archive.means store.now) (S.Store.room store.now))
-            (M.call_write stamp attempt granule code
+            (M.call_write by.stamp by.number granule code
             (λ c. is_some (K.EntryKind.decoded kind.now c)))
             (M.outcome (λ _. Y.Recorded) result)
             (beside self.new
             (S.Archive.means store.now) (S.Store.room store.now)) }
     {
-        let i = match self.on_writing(store, stamp, attempt, granule) {
-            Ok(i) => i,
-            Err(refusal) => return Err(refusal),
-        };
+        self.on_writing(store, by, granule)?;
         if kind.decode(code).is_none() {
             return Err(Refusal::ForeignCode { code });
         }
-        self.record_at(i, granule, Content::Entry(code));
+        record(&mut self.slots[..], by.stamp, granule, Content::Entry(code));
         Ok(())
     }
 
     // Records an absence; a later write replaces it.
-    pub fn erase<S: Store>(
-        &mut self,
-        store: &S,
-        stamp: u64,
-        attempt: u64,
-        granule: usize,
-    ) -> Result<(), Refusal>
+    #[tactic(auto, using(crate::proofs::Writing::recorded_as))]
+    pub fn erase<S: Store>(&mut self, store: &S, by: Attempt, granule: usize) -> Result<(), Refusal>
         requires { S.Archive.sound store.now }
         ensures arising { M.Arising (λ _ _. ⊥) result }
         ensures does { M.Does
             (beside self.old
             (S.Archive.means store.now) (S.Store.room store.now))
-            (M.call_erase stamp attempt granule) (M.outcome (λ _. Y.Recorded) result)
+            (M.call_erase by.stamp by.number granule) (M.outcome (λ _. Y.Recorded) result)
             (beside self.new
             (S.Archive.means store.now) (S.Store.room store.now)) }
     {
-        let i = match self.on_writing(store, stamp, attempt, granule) {
-            Ok(i) => i,
-            Err(refusal) => return Err(refusal),
-        };
-        self.record_at(i, granule, Content::Absence);
+        self.on_writing(store, by, granule)?;
+        record(&mut self.slots[..], by.stamp, granule, Content::Absence);
         Ok(())
     }
 }

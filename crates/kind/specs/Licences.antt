@@ -1,6 +1,7 @@
 -- The code of a licence: 1, 2 or 3 times 2^32 for held, suspended or expired, and the parts
 -- below that.
-use Rattle.std.specs.Prelude.{ℕ, ◌+◌, ◌*◌, ◌/◌, ◌%◌, ◌^◌, cond, Some, None, Option, ◌==◌}
+use Rattle.std.specs.Prelude.{ℕ, ◌+◌, ◌*◌, ◌/◌, ◌%◌, ◌^◌, cond, None, Option, ◌==◌}
+use Rattle.std.specs.Bool.{then_some}
 use Rattle.std.specs.Option.{option_map}
 use Rattle.kind.specs.Kinds.{made_if}
 use Rattle.kind.specs.Ranges.{held_range, reason_range}
@@ -28,7 +29,7 @@ abbrev pub suspended_of : ℕ → Option Licence
 suspended_of n = option_map Suspended (suspension_with n)
 
 abbrev pub expired_of : ℕ → Option Licence
-expired_of n = cond (n == 0) (Some Expired) None
+expired_of n = then_some (n == 0) Expired
 
 -- by the upper half and the lower half
 abbrev pub licence_at : ℕ → ℕ → Option Licence

@@ -1,29 +1,19 @@
 // Duties as an entry kind.
 ghost use Rattle.std.specs.Prelude.{◌≡◌};
 ghost use Rattle.kind.specs.Kinds.{every};
-ghost use Rattle.kind.specs.Duties.{duty_code, duty_of, duty_with};
+ghost use Rattle.kind.specs.Duties.{duty_code, duty_of};
 ghost use Rattle.kind.specs.DutyLaw.{duty_there, duty_back};
 ghost use Rattle.std.proofs.Common.{rules};
 
 use crate::duty::Duty;
 use crate::entry_kind::EntryKind;
 
-impl Duty {
-    pub fn new(pilot: u16, berth: u8, watch: u8) -> Option<Duty>
-        ensures { result ≡ duty_with pilot berth watch }
-    {
-        if pilot < 1 || pilot > 999 || watch > 3 {
-            return None;
-        }
-        Some(Duty {
-            pilot,
-            berth,
-            watch,
-        })
-    }
-}
+// A code is pilot + PILOTS * (berth + BERTHS * watch).
+const PILOTS: u64 = 1024;
 
-#[derive(Clone, Copy)]
+const BERTHS: u64 = 256;
+
+#[derive(Clone, Copy, PartialEq, Eq, Debug)]
 pub struct Duties;
 
 impl EntryKind for Duties {
@@ -44,14 +34,14 @@ impl EntryKind for Duties {
     ghost own = { Prim.search rules };
 
     fn encode(&self, value: Duty) -> u64 {
-        value.pilot as u64 + 1024 * (value.berth as u64 + 256 * value.watch as u64)
+        let place = u64::from(value.berth) + BERTHS * u64::from(value.watch);
+        u64::from(value.pilot) + PILOTS * place
     }
 
     fn decode(&self, code: u64) -> Option<Duty> {
-        let watch = code / 1024 / 256;
-        if watch > 3 {
-            return None;
-        }
-        Duty::new((code % 1024) as u16, (code / 1024 % 256) as u8, watch as u8)
+        let place = code / PILOTS;
+        let watch = u8::try_from(place / BERTHS).ok()?;
+        // remainders are cast, since `try_from` would add refusals that cannot come
+        Duty::new((code % PILOTS) as u16, (place % BERTHS) as u8, watch)
     }
 }

@@ -19,6 +19,8 @@ pub trait EntryKind {
     fn decode(&self, code: u64) -> Option<Self::Entry>
         ensures { result ≡ decoded self.now code };
 
+    // no defaults: each of these four follows from a kind's own members only
+
     ghost fits: { (k : Self) (e : Self.Entry) → has k e → coded k e < 2 ^ 64 };
 
     ghost there: { (k : Self) (e : Self.Entry) → has k e → decoded k (coded k e) ≡ Some e };

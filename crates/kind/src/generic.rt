@@ -7,10 +7,7 @@ use crate::entry_kind::EntryKind;
 pub fn recode<K: EntryKind>(kind: &K, code: u64) -> u64
     ensures { result ≡ code }
 {
-    match kind.decode(code) {
-        Some(e) => kind.encode(e),
-        None => code,
-    }
+    kind.decode(code).map_or(code, |entry| kind.encode(entry))
 }
 
 // An entry of the kind that is written as a code and read back is the same entry.

@@ -1,37 +1,20 @@
 // Licences as an entry kind.
 ghost use Rattle.std.specs.Prelude.{◌≡◌};
 ghost use Rattle.kind.specs.Kinds.{every};
-ghost use Rattle.kind.specs.Licences.{held_of, held_with, licence_code, licence_of};
-ghost use Rattle.kind.specs.Licences.{suspended_of, suspension_with};
+ghost use Rattle.kind.specs.Licences.{held_of, suspended_of, licence_code, licence_of};
 ghost use Rattle.kind.specs.LicenceLaw.{licence_there, licence_back};
 ghost use Rattle.std.proofs.Common.{rules};
 
 use crate::entry_kind::EntryKind;
 use crate::licence::{HeldLicence, Licence, Suspension};
 
-impl HeldLicence {
-    pub fn new(class: u8, last_day: u16) -> Option<HeldLicence>
-        ensures { result ≡ held_with class last_day }
-    {
-        if class < 1 || class > 5 {
-            return None;
-        }
-        Some(HeldLicence { class, last_day })
-    }
-}
+// A code is 1, 2 or 3 times STATE for held, suspended or expired, and below that the class times
+// CLASS and the last day, or the reason.
+const STATE: u64 = 0x1_0000_0000;
 
-impl Suspension {
-    pub fn new(reason: u8) -> Option<Suspension>
-        ensures { result ≡ suspension_with reason }
-    {
-        if reason < 1 || reason > 9 {
-            return None;
-        }
-        Some(Suspension { reason })
-    }
-}
+const CLASS: u64 = 0x1_0000;
 
-#[derive(Clone, Copy)]
+#[derive(Clone, Copy, PartialEq, Eq, Debug)]
 pub struct Licences;
 
 impl EntryKind for Licences {
@@ -54,23 +37,19 @@ impl EntryKind for Licences {
     fn encode(&self, value: Licence) -> u64 {
         match value {
             Licence::Held(held) => {
-                0x1_0000_0000 + held.class as u64 * 0x1_0000 + held.last_day as u64
+                STATE + u64::from(held.class) * CLASS + u64::from(held.last_day)
             }
-            Licence::Suspended(suspension) => 0x2_0000_0000 + suspension.reason as u64,
-            Licence::Expired => 0x3_0000_0000,
+            Licence::Suspended(suspension) => 2 * STATE + u64::from(suspension.reason),
+            Licence::Expired => 3 * STATE,
         }
     }
 
     fn decode(&self, code: u64) -> Option<Licence> {
-        let rest = code % 0x1_0000_0000;
-        match code / 0x1_0000_0000 {
+        let rest = code % STATE;
+        match code / STATE {
             1 => held(rest),
             2 => suspended(rest),
-            3 => if rest == 0 {
-                Some(Licence::Expired)
-            } else {
-                None
-            },
+            3 if rest == 0 => Some(Licence::Expired),
             _ => None,
         }
     }
@@ -80,21 +59,14 @@ impl EntryKind for Licences {
 fn held(rest: u64) -> Option<Licence>
     ensures { result ≡ held_of rest }
 {
-    let class = rest / 0x1_0000;
-    if class > 5 {
-        return None;
-    }
-    let held = HeldLicence::new(class as u8, (rest % 0x1_0000) as u16)?;
-    Some(Licence::Held(held))
+    let class = u8::try_from(rest / CLASS).ok()?;
+    // a remainder is cast, since `try_from` would add a refusal that cannot come
+    HeldLicence::new(class, (rest % CLASS) as u16).map(Licence::Held)
 }
 
 // A suspended licence by the lower half of its code.
 fn suspended(rest: u64) -> Option<Licence>
     ensures { result ≡ suspended_of rest }
 {
-    if rest > 9 {
-        return None;
-    }
-    let suspension = Suspension::new(rest as u8)?;
-    Some(Licence::Suspended(suspension))
+    Suspension::new(u8::try_from(rest).ok()?).map(Licence::Suspended)
 }

@@ -10,13 +10,13 @@ use crate::entry_kind::EntryKind;
 use crate::licence::Licence;
 use crate::licences::Licences;
 
-#[derive(Clone, Copy)]
+#[derive(Clone, Copy, PartialEq, Eq, Debug)]
 pub enum RosterKind {
     Duty,
     Licence,
 }
 
-#[derive(Clone, Copy)]
+#[derive(Clone, Copy, PartialEq, Eq, Debug)]
 pub enum RosterEntry {
     Duty(Duty),
     Licence(Licence),
@@ -60,9 +60,9 @@ impl EntryKind for RosterKind {
     }
 
     fn decode(&self, code: u64) -> Option<RosterEntry> {
-        match *self {
-            RosterKind::Duty => Some(RosterEntry::Duty(Duties.decode(code)?)),
-            RosterKind::Licence => Some(RosterEntry::Licence(Licences.decode(code)?)),
+        match self {
+            RosterKind::Duty => Duties.decode(code).map(RosterEntry::Duty),
+            RosterKind::Licence => Licences.decode(code).map(RosterEntry::Licence),
         }
     }
 }

@@ -2,7 +2,7 @@
 use kind::*;
 
 fn duty_code(pilot: u16, berth: u8, watch: u8) -> Option<u64> {
-    Some(Duties.encode(Duty::new(pilot, berth, watch)?))
+    Duty::new(pilot, berth, watch).map(|duty| Duties.encode(duty))
 }
 
 #[test]
@@ -27,16 +27,16 @@ fn duties(rt: HostRuntime) {
         1_048_577,
         u64::MAX,
     ] {
-        assert!(rt; Duties.decode(code).is_none());
+        assert_eq!(rt; Duties.decode(code), None);
     }
 }
 
 fn held_code(class: u8, last_day: u16) -> Option<u64> {
-    Some(Licences.encode(Licence::Held(HeldLicence::new(class, last_day)?)))
+    HeldLicence::new(class, last_day).map(|held| Licences.encode(Licence::Held(held)))
 }
 
 fn suspended_code(reason: u8) -> Option<u64> {
-    Some(Licences.encode(Licence::Suspended(Suspension::new(reason)?)))
+    Suspension::new(reason).map(|suspension| Licences.encode(Licence::Suspended(suspension)))
 }
 
 #[test]
@@ -72,7 +72,7 @@ fn licence_codes(rt: HostRuntime) {
         0x2_0000_000A,
         u64::MAX,
     ] {
-        assert!(rt; Licences.decode(code).is_none());
+        assert_eq!(rt; Licences.decode(code), None);
     }
     for code in [
         0x2_0001_0001,
@@ -80,7 +80,7 @@ fn licence_codes(rt: HostRuntime) {
         0x4_0000_0000,
         0x1_0000_0000_0000,
     ] {
-        assert!(rt; Licences.decode(code).is_none());
+        assert_eq!(rt; Licences.decode(code), None);
     }
 }
 
@@ -90,11 +90,11 @@ fn roster(rt: HostRuntime) {
     for granule in [0, 7] {
         let kind = RosterKind::of(granule);
         assert!(rt; kind.decode(531_498).is_some());
-        assert!(rt; kind.decode(0x3_0000_0000).is_none());
+        assert_eq!(rt; kind.decode(0x3_0000_0000), None);
     }
     for granule in [8, 15] {
         let kind = RosterKind::of(granule);
-        assert!(rt; kind.decode(531_498).is_none());
+        assert_eq!(rt; kind.decode(531_498), None);
         assert!(rt; kind.decode(0x3_0000_0000).is_some());
     }
     assert_eq!(rt; Codes.decode(u64::MAX), Some(u64::MAX));

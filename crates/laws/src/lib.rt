@@ -6,10 +6,9 @@ ghost use Rattle.laws.specs.Keeping.{OthersKept, RefusalsKeep, OnlyAdvanceAppend
 
 // A call of one transaction leaves the slot of every other as it was; a refusal leaves all as it
 // was, but for the note that 15 keeps; and versions come by an advance only.
-pub fn calls_keep() -> bool
+#[tactic(auto, using(crate::proofs::Kept::answered_others))]
+pub fn calls_keep()
     ensures others { OthersKept }
     ensures refusals { RefusalsKeep }
     ensures versions { OnlyAdvanceAppends }
-{
-    true
-}
+{}

@@ -1,11 +1,12 @@
 // The link: layer 3. It reaches a store by two radios, both up when the link is made. Notices 1
 // and 2 put the first radio down and up, 3 and 4 the second, and every notice is passed below.
 ghost use Rattle.std.specs.Prelude.{◌≡◌, true, ◌||◌};
-ghost use Rattle.model.specs.Stores.{Arose};
-ghost use Rattle.link.specs.Links.{linked, link_origin, link_proper, radio};
+ghost use Rattle.link.specs.Links.{linked, link_origin, link_proper, passed, radio};
 
-use model::{Cause, Content, Fault, Version};
+use model::{Cause, Fault, Version};
 use store::{Archive, Store};
+
+const LAYER: u8 = 3;
 
 #[derive(Drop)]
 pub struct Link<S> {
@@ -26,15 +27,29 @@ impl<S> Link<S> {
             second: true,
         }
     }
+
+    // Whether a radio is up.
+    fn is_up(&self) -> bool
+        ensures { result ≡ (self.now.first || self.now.second) }
+    {
+        self.first || self.second
+    }
 }
 
-fn fault(cause: Cause, granule: usize) -> Fault
-    ensures { (result.cause ≡ cause) × Arose 3 granule result }
-{
-    Fault {
-        cause,
-        layer: 3,
-        granule,
+impl<S: Archive> Link<S> {
+    // What the link refuses itself: a missing granule, and any while both radios are down.
+    fn pass(&self, granule: usize) -> Result<(), Fault>
+        requires { S.Archive.sound self.now.below }
+        ensures { result ≡ passed
+            (self.now.first || self.now.second) (S.Archive.means self.now.below).count granule }
+    {
+        if granule >= self.below.granules() {
+            return Err(Fault::new(Cause::Missing, LAYER, granule));
+        }
+        if !self.is_up() {
+            return Err(Fault::new(Cause::OutOfReach, LAYER, granule));
+        }
+        Ok(())
     }
 }
 
@@ -62,16 +77,11 @@ impl<S: Archive> Archive for Link<S> {
     }
 
     fn within_reach(&self, granule: usize) -> bool {
-        (self.first || self.second) && self.below.within_reach(granule)
+        self.is_up() && self.below.within_reach(granule)
     }
 
     fn version(&self, granule: usize, k: usize) -> Result<Version, Fault> {
-        if granule >= self.below.granules() {
-            return Err(fault(Cause::Missing, granule));
-        }
-        if !(self.first || self.second) {
-            return Err(fault(Cause::OutOfReach, granule));
-        }
+        self.pass(granule)?;
         self.below.version(granule, k)
     }
 }
@@ -89,14 +99,9 @@ impl<S: Store> Store for Link<S> {
         self.below.free_places(granule)
     }
 
-    fn append(&mut self, granule: usize, stamp: u64, content: Content) -> Result<(), Fault> {
-        if granule >= self.below.granules() {
-            return Err(fault(Cause::Missing, granule));
-        }
-        if !(self.first || self.second) {
-            return Err(fault(Cause::OutOfReach, granule));
-        }
-        self.below.append(granule, stamp, content)
+    fn append(&mut self, granule: usize, version: Version) -> Result<(), Fault> {
+        self.pass(granule)?;
+        self.below.append(granule, version)
     }
 
     fn notice(&mut self, number: u64) {

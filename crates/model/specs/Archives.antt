@@ -2,6 +2,7 @@
 use Rattle.std.specs.Prelude.{◌≡◌, ℕ, zero, suc, ◌^◌, ◌<◌, ◌≤◌, max, Bool, false, cond, List, []}
 use Rattle.std.specs.Prelude.{◌∷◌, length, Some, None, Ok, Err, Option, Result, nat_lt}
 use Rattle.std.specs.Prelude.{slice_index_or}
+use Rattle.std.specs.Option.{option_or}
 use Rattle.model.specs.declared.version.Content.{Content}
 use Rattle.model.specs.declared.version.Version.{Version}
 use Rattle.model.specs.declared.fault.Fault.{Fault}
@@ -17,14 +18,10 @@ pub record Archived : Type 0 where
 abbrev pub version_with : ℕ → Content → Version
 version_with t c = record { stamp = t; content = c }
 
-abbrev pub or_else : {X : Type 0} → Option X → Option X → Option X
-or_else None b = b
-or_else (Some a) b = Some a
-
 -- the last version of a list
 abbrev pub newest : List Version → Option Version
 newest [] = None
-newest (v ∷ vs) = or_else (newest vs) (Some v)
+newest (v ∷ vs) = option_or (newest vs) (Some v)
 
 abbrev pub stamp_or_0 : Option Version → ℕ
 stamp_or_0 None = 0
@@ -63,7 +60,7 @@ granule_fault a g =
 -- why version k of granule g is not told
 abbrev pub question_fault : Archived → ℕ → ℕ → Option Cause
 question_fault a g k =
-    or_else (granule_fault a g) (cond (nat_lt k (length (a.history g))) None (Some Missing))
+    option_or (granule_fault a g) (cond (nat_lt k (length (a.history g))) None (Some Missing))
 
 -- the answer to the question for version k of granule g; `origin` says which faults may arise
 -- there, by the layer and the granule as that layer counts it

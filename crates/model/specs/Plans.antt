@@ -1,5 +1,6 @@
 -- The steps of an advance: what is done next, and what then stands.
-use Rattle.std.specs.Prelude.{ℕ, zero, suc, cond, List, [], ◌∷◌, is_some, Some, None, Option, ◌==◌}
+use Rattle.std.specs.Prelude.{ℕ, cond, List, [], ◌∷◌, is_some, map, slice_get, Some, None, Option}
+use Rattle.std.specs.Prelude.{◌==◌}
 use Rattle.model.specs.declared.version.Write.{Write}
 use Rattle.model.specs.declared.phase.Mark.TheVariants.{Unmarked, Checked}
 use Rattle.model.specs.declared.fault.Cause.{Cause}
@@ -10,16 +11,11 @@ use Rattle.model.specs.declared.answer.Step.TheVariants as S
 use Rattle.model.specs.Numbers.{cause_number}
 use Rattle.model.specs.Archives.{version_with}
 use Rattle.model.specs.Stores.{Stored, append_fault}
-use Rattle.model.specs.Slots.{Slot, oldest, validating, due, conflict, marked_notes, adjust, each}
+use Rattle.model.specs.Slots.{Slot, oldest, validating, due, conflict, marked_notes, adjust}
 use Rattle.model.specs.Slots.{one_put, in_phase, mark_younger, restarted, with_mark}
 use Rattle.model.specs.Slots.{committed, woken}
 use Rattle.model.specs.Worlds.{append_to}
 use Rattle.model.specs.Refusals.{Rule, rule}
-
-abbrev pub nth_write : ℕ → List Write → Option Write
-nth_write k [] = None
-nth_write zero (w ∷ ws) = Some w
-nth_write (suc k) (w ∷ ws) = nth_write k ws
 
 -- in phase 3 the next write is appended, and with all written the notes are marked
 abbrev pub plan_put : ℕ → Option Write → Plan
@@ -40,7 +36,7 @@ plan_check x (Some y) =
 abbrev pub plan_for : List Slot → Option Slot → Plan
 plan_for xs None = P.Idle
 plan_for xs (Some x) =
-    cond (x.phase == 3) (plan_put x.stamp (nth_write x.puts x.writes))
+    cond (x.phase == 3) (plan_put x.stamp (slice_get x.writes x.puts))
     (plan_check x (oldest due xs))
 
 -- what the next advance does
@@ -51,10 +47,10 @@ plan_of xs = plan_for xs (oldest validating xs)
 abbrev pub after_plan : Plan → List Slot → List Slot
 after_plan P.Idle xs = xs
 after_plan (P.Put t w) xs = adjust t one_put xs
-after_plan (P.Mark t) xs = adjust t (in_phase 4) (each (mark_younger t) xs)
+after_plan (P.Mark t) xs = adjust t (in_phase 4) (map (mark_younger t) xs)
 after_plan (P.Again t g) xs = adjust t restarted xs
 after_plan (P.Pass t) xs = adjust t (with_mark Checked) xs
-after_plan (P.Done t) xs = woken (adjust t committed (each (with_mark Unmarked) xs))
+after_plan (P.Done t) xs = woken (adjust t committed (map (with_mark Unmarked) xs))
 
 -- the store after it
 abbrev pub put_plan : Plan → Stored → Stored

@@ -1,9 +1,10 @@
 -- The table of refusals. Causes are tried from the top down, and the first that applies wins.
 use Rattle.std.specs.Prelude.{ℕ, ◌^◌, Bool, false, cond, not, ◌&&◌, ◌||◌, List, [], ◌∷◌, ◌++◌}
 use Rattle.std.specs.Prelude.{length, is_some, Some, None, Option, ◌==◌, nat_le, nat_lt}
+use Rattle.std.specs.Option.{is_none, unwrap_or}
 use Rattle.model.specs.Slots.{Slot, held, note_fits, oldest, other_section, other_writer}
-use Rattle.model.specs.Slots.{full, tally, read_answer}
-use Rattle.model.specs.Worlds.{World, or_free, slot_with, own_of}
+use Rattle.model.specs.Slots.{free_slot, full, tally, read_answer}
+use Rattle.model.specs.Worlds.{World, slot_with, own_of}
 
 -- a line of the table: when it applies, its number, and what is returned
 pub record Rule : Type 0 where
@@ -21,9 +22,6 @@ Refused = ℕ × List ℕ
 abbrev pub refusal : List Rule → Option Refused
 refusal [] = None
 refusal (r ∷ rs) = cond r.applies (Some (r.number, r.returns)) (refusal rs)
-
-abbrev pub is_none : {X : Type 0} → Option X → Bool
-is_none o = not (is_some o)
 
 -- 1: not opened
 abbrev pub not_opened : World → Rule
@@ -66,7 +64,7 @@ wrong_phase xs t needed =
 abbrev pub section_writes : List Slot → ℕ → ℕ → Rule
 section_writes xs t g =
     rule (is_some (oldest (other_section t g) xs)) 10
-    ((or_free (oldest (other_section t g) xs)).stamp ∷ [])
+    ((unwrap_or (oldest (other_section t g) xs) free_slot).stamp ∷ [])
 
 -- 11: the store refuses to tell the granule's newest version; granule and fault are returned
 abbrev pub not_told : World → ℕ → ℕ → Rule

@@ -1,6 +1,8 @@
 -- A transaction's slot, what it notes and writes, and what a list of slots tells.
 use Rattle.std.specs.Prelude.{ℕ, suc, Bool, true, false, cond, not, ◌&&◌, ◌||◌, List, [], ◌∷◌, ◌++◌}
-use Rattle.std.specs.Prelude.{length, take, is_some, Some, None, Option, ◌==◌, nat_le, nat_lt}
+use Rattle.std.specs.Prelude.{length, take, find, is_some, Some, None, Option, ◌==◌, nat_le, nat_lt}
+use Rattle.std.specs.List.{list_any}
+use Rattle.std.specs.Option.{option_and_then, option_map}
 use Rattle.model.specs.declared.version.Content.{Content}
 use Rattle.model.specs.declared.version.Content.TheVariants.{Entry, Absence}
 use Rattle.model.specs.declared.version.Version.{Version}
@@ -19,25 +21,22 @@ code_of Absence = None
 
 -- what a version is answered by: an entry's code, or none
 abbrev pub answer_of : Option Version → Option ℕ
-answer_of None = None
-answer_of (Some v) = code_of v.content
+answer_of o = option_and_then (λ v. code_of v.content) o
 
 abbrev pub write_to : ℕ → Content → Write
 write_to g c = record { granule = g; content = c }
 
 -- the transaction's own write of a granule
 abbrev pub own : ℕ → List Write → Option Content
-own g [] = None
-own g (w ∷ ws) = cond (g == w.granule) (Some w.content) (own g ws)
+own g ws = option_map (λ w. w.content) (find (λ w. w.granule == g) ws)
 
 -- a later write of a granule replaces the earlier; order is that of first writing
 abbrev pub set_own : ℕ → Content → List Write → List Write
 set_own g c [] = write_to g c ∷ []
-set_own g c (w ∷ ws) = cond (g == w.granule) (write_to g c ∷ ws) (w ∷ set_own g c ws)
+set_own g c (w ∷ ws) = cond (w.granule == g) (write_to g c ∷ ws) (w ∷ set_own g c ws)
 
 abbrev pub mem : ℕ → List ℕ → Bool
-mem g [] = false
-mem g (n ∷ ns) = g == n || mem g ns
+mem g ns = list_any (λ n. n == g) ns
 
 -- notes are the granules read, in order, each once
 abbrev pub note : ℕ → List ℕ → List ℕ
@@ -159,17 +158,12 @@ holds t x = not (is_free x) && x.stamp == t
 
 -- the slot that has the stamp
 abbrev pub held : ℕ → List Slot → Option Slot
-held t [] = None
-held t (x ∷ xs) = cond (holds t x) (Some x) (held t xs)
+held t xs = find (holds t) xs
 
 -- the slot that has the stamp is changed, and no other
 abbrev pub adjust : ℕ → (Slot → Slot) → List Slot → List Slot
 adjust t f [] = []
 adjust t f (x ∷ xs) = cond (holds t x) (f x ∷ xs) (x ∷ adjust t f xs)
-
-abbrev pub each : (Slot → Slot) → List Slot → List Slot
-each f [] = []
-each f (x ∷ xs) = f x ∷ each f xs
 
 -- the first free slot is taken
 abbrev pub place : Slot → List Slot → List Slot

@@ -5,7 +5,8 @@ use Rattle.model.specs.declared.version.Version.{Version}
 use Rattle.model.specs.declared.fault.Fault.{Fault}
 use Rattle.model.specs.declared.fault.Cause.{Cause}
 use Rattle.model.specs.declared.fault.Cause.TheVariants.{BadStamp, NoFreePlace}
-use Rattle.model.specs.Archives.{Archived, or_else, top, granule_fault}
+use Rattle.std.specs.Option.{option_or}
+use Rattle.model.specs.Archives.{Archived, top, granule_fault}
 
 pub record Stored : Type 0 where
   pub archive : Archived
@@ -26,7 +27,7 @@ place_fault vs free t =
 -- why a version with stamp t is not appended to granule g
 abbrev pub append_fault : Stored → ℕ → ℕ → Option Cause
 append_fault s g t =
-    or_else (granule_fault s.archive g) (place_fault (s.archive.history g) (s.room g) t)
+    option_or (granule_fault s.archive g) (place_fault (s.archive.history g) (s.room g) t)
 
 -- granule g has got the version v, and one free place fewer; nothing else has changed
 pub record Grown (s s' : Stored) (g : ℕ) (v : Version) : Type 0 where

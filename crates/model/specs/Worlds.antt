@@ -1,6 +1,7 @@
 -- A certifier beside its store.
-use Rattle.std.specs.Prelude.{ℕ, ◌-◌, Bool, false, cond, List, [], ◌∷◌, ◌++◌, replicate, Some, None}
+use Rattle.std.specs.Prelude.{ℕ, ◌-◌, Bool, false, cond, List, [], ◌∷◌, ◌++◌, replicate}
 use Rattle.std.specs.Prelude.{Option, ◌==◌}
+use Rattle.std.specs.Option.{unwrap_or}
 use Rattle.model.specs.declared.version.Content.{Content}
 use Rattle.model.specs.declared.version.Version.{Version}
 use Rattle.model.specs.Stores.{Stored}
@@ -22,13 +23,9 @@ made s = world false 0 (replicate 32 free_slot) s
 abbrev pub with_slots : List Slot → World → World
 with_slots xs w = world w.opened w.last xs w.store
 
-abbrev pub or_free : Option Slot → Slot
-or_free None = free_slot
-or_free (Some x) = x
-
 -- the slot of transaction t
 abbrev pub slot_with : List Slot → ℕ → Slot
-slot_with xs t = or_free (held t xs)
+slot_with xs t = unwrap_or (held t xs) free_slot
 
 -- what transaction t has written to granule g
 abbrev pub own_of : List Slot → ℕ → ℕ → Option Content

@@ -1,6 +1,7 @@
 // The numbers of causes, phases and refusals.
 ghost use Rattle.std.specs.Prelude.{◌≡◌};
 ghost use Rattle.model.specs.Numbers.{cause_number, phase_number, refusal_number, live};
+ghost use Rattle.model.specs.Refusals.{running, running_or_waiting};
 
 use crate::answer::Refusal;
 use crate::fault::Cause;
@@ -10,12 +11,7 @@ impl Cause {
     pub fn number(self) -> u8
         ensures { result ≡ cause_number self }
     {
-        match self {
-            Cause::Missing => 21,
-            Cause::OutOfReach => 22,
-            Cause::BadStamp => 23,
-            Cause::NoFreePlace => 24,
-        }
+        self as u8
     }
 }
 
@@ -23,28 +19,31 @@ impl Phase {
     pub fn number(self) -> u8
         ensures { result ≡ phase_number self }
     {
-        match self {
-            Phase::Free => 0,
-            Phase::Running => 1,
-            Phase::Waiting => 2,
-            Phase::Section => 3,
-            Phase::Checking => 4,
-            Phase::Committed => 5,
-        }
+        self as u8
+    }
+
+    pub fn is_running(self) -> bool
+        ensures { result ≡ running (phase_number self) }
+    {
+        self == Phase::Running
+    }
+
+    pub fn is_running_or_waiting(self) -> bool
+        ensures { result ≡ running_or_waiting (phase_number self) }
+    {
+        matches!(self, Phase::Running | Phase::Waiting)
     }
 
     // Running, waiting, in its section or checking.
     pub fn is_live(self) -> bool
         ensures { result ≡ live (phase_number self) }
     {
-        match self {
-            Phase::Free | Phase::Committed => false,
-            _ => true,
-        }
+        !matches!(self, Phase::Free | Phase::Committed)
     }
 }
 
 impl Refusal {
+    // By a match, since a case with data has no number that `as` could give.
     pub fn number(self) -> u8
         ensures { result ≡ refusal_number self }
     {

@@ -1,7 +1,12 @@
-// What the next advance does.
+// What the next advance does, and the step that it answers.
+ghost use Rattle.std.specs.Prelude.{◌≡◌};
+ghost use Rattle.model.specs.Plans.{step_of};
+
+use crate::answer::Step;
 use crate::version::Write;
 
-#[derive(Clone, Copy)]
+// It is data and no closure, since the definitions name it and an advance answers by it.
+#[derive(Clone, Copy, PartialEq, Eq, Debug)]
 pub enum Plan {
     Idle,
     // append the next write of the transaction in its section
@@ -13,4 +18,21 @@ pub enum Plan {
     // let a younger transaction go on
     Pass { stamp: u64 },
     Done { stamp: u64 },
+}
+
+impl From<Plan> for Step {
+    ghost from_gives = { λ plan step. step ≡ step_of plan };
+
+    fn from(plan: Plan) -> Step {
+        match plan {
+            Plan::Idle => Step::Idle,
+            Plan::Put { write, .. } => Step::Put {
+                granule: write.granule,
+            },
+            Plan::Mark { .. } => Step::Mark,
+            Plan::Again { stamp, granule } => Step::Again { stamp, granule },
+            Plan::Pass { stamp } => Step::Pass { stamp },
+            Plan::Done { stamp } => Step::Done { stamp },
+        }
+    }
 }

@@ -1,7 +1,8 @@
 -- The latest stamp of two ranges of granules, one after the other.
-use Rattle.std.proofs.Common.{◌≡◌, ℕ, zero, suc, ◌+◌, ◌-◌, ◌<◌, max, true, List, refl, ap, ◌∙◌}
+use Rattle.std.proofs.Common.{◌≡◌, ℕ, zero, suc, ◌+◌, ◌<◌, max, true, List, refl, ap, ◌∙◌}
 use Rattle.std.proofs.Common.{add-zero, add-suc, arith}
-use Rattle.std.proofs.lemmas.Bool.{cond-true, cond-false, lt-ltb, le-ltb}
+use Rattle.std.proofs.lemmas.Bool.{cond-true}
+use Rattle.std.proofs.lemmas.Bool.Decides.{nat_tests}
 use Rattle.model.specs.declared.version.Version.{Version}
 use Rattle.model.specs.Archives.{Archived, top_below, latest_of}
 use Rattle.pair.specs.Pairs.{both, joined}
@@ -25,9 +26,5 @@ pub latest_both : (a b : Archived) → both a b ≡ true
     → latest_of (joined a b) ≡ max (latest_of a) (latest_of b)
 latest_both a b f =
     let t = joined_top a.count b.count a.history b.history (joined a b).history
-    (λ h l. cond-true _ _ _ (lt-ltb _ _ l))
-    (λ h l.
-    let e : a.count + h - a.count ≡ h = omega arith in
-    cond-false _ _ _ (le-ltb (a.count + h) a.count (omega arith))
-    ∙ cond-true _ _ _ f ∙ ap b.history e) in
+    (λ h l. grind (arith, nat_tests)) (λ h l. grind (arith, nat_tests)) in
     ap (λ n. top_below n (joined a b).history) (cond-true _ _ _ f) ∙ t

@@ -1,17 +1,28 @@
 -- What a pair means, over what stands below it.
 use Rattle.std.specs.Prelude.{◌≡◌, ℕ, ◌+◌, ◌-◌, ◌≤◌, Bool, false, cond, ◌&&◌, List, [], MatchBool}
-use Rattle.std.specs.Prelude.{nat_le, nat_lt}
+use Rattle.std.specs.Prelude.{◌<◌, true, nat_le, nat_lt, Some, None, Ok, Err, Option}
+use Rattle.std.specs.Prelude.{Result}
 use Rattle.std.proofs.Common.{◌∙◌, arith}
 use Rattle.std.proofs.lemmas.Bool.{and_left, and_right, cond-true, cond-false, cond_both, leb-true}
 use Rattle.std.proofs.lemmas.Bool.{le-ltb}
 use Rattle.model.specs.declared.fault.Fault.{Fault}
+use Rattle.model.specs.declared.fault.Cause.TheVariants.{Missing}
 use Rattle.model.specs.declared.version.Version.{Version}
 use Rattle.model.specs.Archives.{Archived, Proper, Rising}
 use Rattle.model.specs.Stores.{Arose}
+use Rattle.pair.specs.declared.halves.Half.{Half}
+use Rattle.pair.specs.declared.halves.Half.TheVariants.{First, Second}
 
 -- whether a pair shows both
 abbrev pub both : Archived → Archived → Bool
 both a b = nat_le (a.count + b.count) 4096
+
+-- where granule g of a pair is sought: in the first half, in the second as another granule, or
+-- nowhere
+abbrev pub Halved : Archived → Archived → ℕ → Option Half → Type 0
+Halved a b g None = (a.count ≤ g) × (both a b ≡ false)
+Halved a b g (Some First) = g < a.count
+Halved a b g (Some (Second h)) = (a.count ≤ g) × (both a b ≡ true) × (h ≡ g - a.count)
 
 -- the versions of granule g of a pair
 abbrev pub joined_history : Archived → Archived → ℕ → List Version
@@ -32,6 +43,11 @@ joined a b = record {
 abbrev pub joined_room : Archived → Archived → (ℕ → ℕ) → (ℕ → ℕ) → ℕ → ℕ
 joined_room a b room-a room-b g =
     cond (nat_lt g a.count) (room-a g) (cond (both a b) (room-b (g - a.count)) 0)
+
+-- which half has granule g of a pair, if there is such a granule
+abbrev pub HalfWith : Archived → Archived → ℕ → Result Half Fault → Type 0
+HalfWith a b g (Ok half) = (g < (joined a b).count) × Halved a b g (Some half)
+HalfWith a b g (Err f) = ((joined a b).count ≤ g) × (f.cause ≡ Missing) × Arose 2 g f
 
 -- a pair finds a missing granule itself; other faults come from the half that has the granule
 abbrev pub joined_origin : Archived → Archived

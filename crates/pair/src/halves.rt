@@ -1,15 +1,13 @@
 // The pair: layer 2. It shows two stores as one, the first one's granules and then the second's.
 // Where these are more than 4,096 together it shows the first one only. Notices go to both.
 ghost use Rattle.std.specs.Prelude.{◌≡◌, ◌++◌};
-ghost use Rattle.model.specs.Stores.{Arose};
 ghost use Rattle.pair.specs.Pairs.{both, joined, joined_room, joined_origin};
-ghost use Rattle.pair.specs.Pairs.{pair_proper};
+ghost use Rattle.pair.specs.Pairs.{pair_proper, Halved, HalfWith};
 
-use model::{Cause, Content, Fault, Version};
+use model::{Cause, Fault, MOST_GRANULES, Version};
 use store::{Archive, Store};
 
-// The most granules that an archive has.
-const MOST: usize = 4096;
+const LAYER: u8 = 2;
 
 #[derive(Drop)]
 pub struct Pair<L, R> {
@@ -17,14 +15,11 @@ pub struct Pair<L, R> {
     second: R,
 }
 
-fn missing(granule: usize) -> Fault
-    ensures { (result.cause ≡ Cause.Missing) × Arose 2 granule result }
-{
-    Fault {
-        cause: Cause::Missing,
-        layer: 2,
-        granule,
-    }
+// The half that a granule is sought in; the second has it under another number.
+#[derive(Clone, Copy)]
+enum Half {
+    First,
+    Second(usize),
 }
 
 impl<L, R> Pair<L, R> {
@@ -35,6 +30,7 @@ impl<L, R> Pair<L, R> {
     }
 }
 
+// That both are sound is required of each call, and is no field: the traits fix it as `sound`.
 impl<L: Archive, R: Archive> Pair<L, R> {
     // Whether both are shown.
     fn shows_both(&self) -> bool
@@ -44,7 +40,39 @@ impl<L: Archive, R: Archive> Pair<L, R> {
             (L.Archive.means self.now.first)
             (R.Archive.means self.now.second) }
     {
-        self.first.granules() + self.second.granules() <= MOST
+        self.first.granules() + self.second.granules() <= MOST_GRANULES
+    }
+
+    // Where a granule is sought; with the second half not shown, nowhere past the first.
+    fn half(&self, granule: usize) -> Option<Half>
+        requires sound_first { L.Archive.sound self.now.first }
+        requires sound_second { R.Archive.sound self.now.second }
+        ensures { Halved
+            (L.Archive.means self.now.first)
+            (R.Archive.means self.now.second) granule result }
+    {
+        let n = self.first.granules();
+        if granule < n {
+            Some(Half::First)
+        } else if self.shows_both() {
+            Some(Half::Second(granule - n))
+        } else {
+            None
+        }
+    }
+
+    // The half that has a granule.
+    fn half_with(&self, granule: usize) -> Result<Half, Fault>
+        requires sound_first { L.Archive.sound self.now.first }
+        requires sound_second { R.Archive.sound self.now.second }
+        ensures { HalfWith
+            (L.Archive.means self.now.first)
+            (R.Archive.means self.now.second) granule result }
+    {
+        match self.half(granule) {
+            Some(half) if granule < self.granules() => Ok(half),
+            _ => Err(Fault::new(Cause::Missing, LAYER, granule)),
+        }
     }
 }
 
@@ -70,6 +98,7 @@ impl<L: Archive, R: Archive> Archive for Pair<L, R> {
         }
     }
 
+    #[tactic(auto, using(crate::proofs::Tops::latest_both))]
     fn latest(&self) -> u64 {
         let latest = self.first.latest();
         if !self.shows_both() {
@@ -78,34 +107,27 @@ impl<L: Archive, R: Archive> Archive for Pair<L, R> {
         latest.max(self.second.latest())
     }
 
+    // alike to `free_places` below: a closure for the question would be no shorter than its arms
     fn versions(&self, granule: usize) -> usize {
-        let n = self.first.granules();
-        if granule < n {
-            self.first.versions(granule)
-        } else if self.shows_both() {
-            self.second.versions(granule - n)
-        } else {
-            0
+        match self.half(granule) {
+            Some(Half::First) => self.first.versions(granule),
+            Some(Half::Second(seen)) => self.second.versions(seen),
+            None => 0,
         }
     }
 
     fn within_reach(&self, granule: usize) -> bool {
-        let n = self.first.granules();
-        if granule < n {
-            self.first.within_reach(granule)
-        } else {
-            self.shows_both() && self.second.within_reach(granule - n)
+        match self.half(granule) {
+            Some(Half::First) => self.first.within_reach(granule),
+            Some(Half::Second(seen)) => self.second.within_reach(seen),
+            None => false,
         }
     }
 
     fn version(&self, granule: usize, k: usize) -> Result<Version, Fault> {
-        let n = self.first.granules();
-        if granule < n {
-            self.first.version(granule, k)
-        } else if granule < self.granules() {
-            self.second.version(granule - n, k)
-        } else {
-            Err(missing(granule))
+        match self.half_with(granule)? {
+            Half::First => self.first.version(granule, k),
+            Half::Second(seen) => self.second.version(seen, k),
         }
     }
 }
@@ -122,25 +144,18 @@ impl<L: Store, R: Store> Store for Pair<L, R> {
     ghost lent = { λ s. L.Store.lent s.first ++ R.Store.lent s.second };
 
     fn free_places(&self, granule: usize) -> usize {
-        let n = self.first.granules();
-        if granule < n {
-            self.first.free_places(granule)
-        } else if self.shows_both() {
-            self.second.free_places(granule - n)
-        } else {
-            0
+        match self.half(granule) {
+            Some(Half::First) => self.first.free_places(granule),
+            Some(Half::Second(seen)) => self.second.free_places(seen),
+            None => 0,
         }
     }
 
-    fn append(&mut self, granule: usize, stamp: u64, content: Content) -> Result<(), Fault> {
-        let n = self.first.granules();
-        if granule < n {
-            return self.first.append(granule, stamp, content);
+    fn append(&mut self, granule: usize, version: Version) -> Result<(), Fault> {
+        match self.half_with(granule)? {
+            Half::First => self.first.append(granule, version),
+            Half::Second(seen) => self.second.append(seen, version),
         }
-        if granule >= self.granules() {
-            return Err(missing(granule));
-        }
-        self.second.append(granule - n, stamp, content)
     }
 
     fn notice(&mut self, number: u64) {

@@ -1,12 +1,11 @@
--- The lines that have been put: none, one more, all.
-use Rattle.std.proofs.Common.{◌≡◌, ℕ, List, [], ◌∷◌, ◌++◌, sym, refl, ap, ◌∙◌, subst, append_assoc}
-use Rattle.std.proofs.lemmas.List.{append-nil}
+-- The lines that have been put: none, one more.
+use Rattle.std.proofs.Common.{◌≡◌, ℕ, List, [], ◌∷◌, ◌++◌, sym, ap, ◌∙◌, append_assoc}
 use Rattle.certifier.specs.declared.certifier.Certifier.{Certifier}
-use Rattle.replay.specs.Replays.{Sense, AnsweredLine, Replayed, no_line, one_more, PutFront}
+use Rattle.replay.specs.Replays.{Sense, AnsweredLine, no_line, one_more, PutFront}
 
 module _ {X : Type 0} (σ : Sense X) (c : Certifier) (s : X) (all : List (List ℕ)) where
-  pub front_none : PutFront σ c s all all [] c s
-  front_none = ([], refl, no_line)
+  pub front_none : (left : List (List ℕ)) → all ≡ left → PutFront σ c s all left [] c s
+  front_none left e = ([], e, no_line)
 
   module _ (left : List (List ℕ)) (text : List ℕ) (c' : Certifier) (s' : X) where
     pub front_more : (l : List ℕ) (left' : List (List ℕ)) (more : List ℕ)
@@ -18,8 +17,3 @@ module _ {X : Type 0} (σ : Sense X) (c : Certifier) (s : X) (all : List (List �
       (p.1 ∙ ap (λ ms. p.0 ++ ms) e) ∙ sym (append_assoc p.0 (l ∷ []) left'),
       one_more l p.2 a,
     )
-
-    pub front_all : left ≡ [] → PutFront σ c s all left text c' s' → Replayed σ c s all text c' s'
-    front_all e p =
-        let q = p.1 ∙ (ap (λ ms. p.0 ++ ms) e ∙ append-nil p.0) in
-        subst (λ (ls : List (List ℕ)). Replayed σ c s ls text c' s') (sym q) p.2

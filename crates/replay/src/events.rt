@@ -7,7 +7,7 @@ ghost use Rattle.replay.specs.Replays.{sense, PutEvent, of_kind};
 
 use certifier::Certifier;
 use kind::{EntryKind, RosterKind};
-use model::{Refusal, Reply};
+use model::{Attempt, Refusal, Reply};
 use script::Event;
 use store::{Archive, Store};
 
@@ -15,8 +15,7 @@ use store::{Archive, Store};
 fn read_code<S: Store>(
     certifier: &mut Certifier,
     store: &S,
-    stamp: u64,
-    attempt: u64,
+    by: Attempt,
     granule: usize,
 ) -> Result<Reply, Refusal>
     requires { S.Archive.sound store.now }
@@ -24,27 +23,20 @@ fn read_code<S: Store>(
     ensures does { M.Does
         (beside certifier.old
         (S.Archive.means store.now) (S.Store.room store.now))
-        (M.call_read stamp attempt granule (of_kind granule)) (M.outcome (λ y. y) result)
+        (M.call_read by.stamp by.number granule (of_kind granule)) (M.outcome (λ y. y) result)
         (beside certifier.new
         (S.Archive.means store.now) (S.Store.room store.now)) }
 {
     let kind = RosterKind::of(granule);
-    let read = match certifier.read(store, stamp, attempt, granule, &kind) {
-        Ok(read) => read,
-        Err(refusal) => return Err(refusal),
-    };
-    match read {
-        Some(value) => Ok(Reply::Read(Some(kind.encode(value)))),
-        None => Ok(Reply::Read(None)),
-    }
+    let entry = certifier.read(store, by, granule, &kind)?;
+    Ok(Reply::Read(entry.map(|entry| kind.encode(entry))))
 }
 
 // A write as the roster makes it, of the granule's kind.
 fn write_code<S: Store>(
     certifier: &mut Certifier,
     store: &S,
-    stamp: u64,
-    attempt: u64,
+    by: Attempt,
     granule: usize,
     code: u64,
 ) -> Result<Reply, Refusal>
@@ -53,15 +45,13 @@ fn write_code<S: Store>(
     ensures does { M.Does
         (beside certifier.old
         (S.Archive.means store.now) (S.Store.room store.now))
-        (M.call_write stamp attempt granule code (of_kind granule)) (M.outcome (λ y. y) result)
+        (M.call_write by.stamp by.number granule code (of_kind granule))
+        (M.outcome (λ y. y) result)
         (beside certifier.new
         (S.Archive.means store.now) (S.Store.room store.now)) }
 {
-    let kind = RosterKind::of(granule);
-    match certifier.write(store, stamp, attempt, granule, &kind, code) {
-        Ok(()) => Ok(Reply::Recorded),
-        Err(refusal) => Err(refusal),
-    }
+    certifier.write(store, by, granule, &RosterKind::of(granule), code)?;
+    Ok(Reply::Recorded)
 }
 
 // Puts an event to the certifier.
@@ -88,28 +78,35 @@ pub fn put_event<S: Store>(
         }
         Event::Read {
             stamp,
-            attempt,
+            attempt: number,
             granule,
-        } => { read_code(certifier, store, stamp, attempt, granule) }
+        } => read_code(certifier, store, Attempt { stamp, number }, granule),
         Event::Write {
             stamp,
-            attempt,
+            attempt: number,
             granule,
             code,
-        } => { write_code(certifier, store, stamp, attempt, granule, code) }
+        } => write_code(certifier, store, Attempt { stamp, number }, granule, code),
         Event::Erase {
             stamp,
-            attempt,
+            attempt: number,
             granule,
         } => {
-            certifier.erase(store, stamp, attempt, granule)?;
+            certifier.erase(store, Attempt { stamp, number }, granule)?;
             Ok(Reply::Recorded)
         }
-        Event::Commit { stamp, attempt } => {
-            Ok(Reply::Committing(certifier.commit(store, stamp, attempt)?))
+        Event::Commit {
+            stamp,
+            attempt: number,
+        } => {
+            let phase = certifier.commit(store, Attempt { stamp, number })?;
+            Ok(Reply::Committing(phase))
         }
-        Event::RollBack { stamp, attempt } => {
-            certifier.roll_back(store, stamp, attempt)?;
+        Event::RollBack {
+            stamp,
+            attempt: number,
+        } => {
+            certifier.roll_back(store, Attempt { stamp, number })?;
             Ok(Reply::RolledBack)
         }
         Event::Advance => Ok(Reply::Stepped(certifier.advance(store)?)),

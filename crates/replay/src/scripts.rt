@@ -1,11 +1,12 @@
-// Whole scripts.
+// Whole scripts. Certifier, store and output are the caller's and are lent to each function: a
+// struct of the three would have to own them, or hold three loans.
 ghost use Rattle.std.specs.Prelude.{◌≡◌};
 ghost use Rattle.replay.specs.Replays.{sense, PutLine, PutLines, PutScript};
 
 use crate::events::put_event;
-use answer_text::{push_answer, push_too_long, push_unreadable};
+use answer_text::{push_answer, push_unread};
 use certifier::Certifier;
-use script::{event, fits, next_line};
+use script::{Lines, Unread, event, fits};
 use std::alloc::AllocError;
 use store::{Archive, Store};
 
@@ -31,7 +32,7 @@ fn put_line<S: Store>(
             let outcome = put_event(certifier, store, &event);
             push_answer(out, &event, outcome)
         }
-        None => push_unreadable(out),
+        None => push_unread(out, Unread::Line),
     }
 }
 
@@ -52,13 +53,8 @@ fn put_lines<S: Store>(
         out.old.items out.new.items result
         certifier.new store.new }
 {
-    let mut rest = script;
-    while let Some(cut) = next_line(rest) {
-        match put_line(certifier, store, cut.line, out) {
-            Ok(()) => {}
-            Err(error) => return Err(error),
-        }
-        rest = cut.rest;
+    for line in Lines::of(script) {
+        put_line(certifier, store, line, out)?;
     }
     Ok(())
 }
@@ -82,7 +78,7 @@ pub fn replay<S: Store>(
         certifier.new store.new }
 {
     if !fits(script) {
-        return push_too_long(out);
+        return push_unread(out, Unread::Script);
     }
     put_lines(certifier, store, script, out)
 }

@@ -8,12 +8,13 @@ use pair::Pair;
 use replay::replay;
 use std::io;
 use std::io::{Read, Write};
-use table::Table;
+use table::{Shape, Table};
 
-// Granules of each half, and versions of each granule.
-const GRANULES: usize = 8;
-
-const DEPTH: usize = 8;
+// The shape of each half, and the words that it takes.
+const SHAPE: Shape = Shape {
+    granules: 8,
+    depth: 8,
+};
 
 const WORDS: usize = 128;
 
@@ -22,8 +23,8 @@ fn main(rt: HostRuntime) -> io::Result<()> {
     rt.stdin().read_to_end(&mut script)?;
     let mut near = [0u64; WORDS];
     let mut far = [0u64; WORDS];
-    let duties = Table::new(&mut near, GRANULES, DEPTH);
-    let licences = Link::new(Table::new(&mut far, GRANULES, DEPTH));
+    let duties = Table::new(&mut near, SHAPE);
+    let licences = Link::new(Table::new(&mut far, SHAPE));
     let mut store = Pair::new(duties, licences);
     let mut certifier = Certifier::new();
     let mut answers = Vec::new(rt.alloc());

@@ -1,17 +1,22 @@
 -- A script is its lines.
-use Rattle.std.proofs.Common.{◌≡◌, ℕ, ◌<◌, ◌≤◌, true, false, eqb, ◌⊎◌, List, [], ◌∷◌, ◌++◌, length}
-use Rattle.std.proofs.Common.{Some, None, Option, unwrap_or, sym, refl, ap, ◌∙◌, inl, inr, ⊎_elim}
-use Rattle.std.proofs.Common.{arith, length-append}
+use Rattle.std.proofs.Common.{◌≡◌, ℕ, ◌+◌, ◌<◌, ◌≤◌, true, false, eqb, ◌⊎◌, List, [], ◌∷◌, ◌++◌}
+use Rattle.std.proofs.Common.{length, Some, None, Option, unwrap_or, refl, ap, ◌∙◌, inl, inr}
+use Rattle.std.proofs.Common.{⊎_elim, Bor, arith, length-append, length-drop}
 use Rattle.std.proofs.lemmas.Bool.{cases_Bool, eqb-true}
-use Rattle.script.specs.Pieces.{others, onto, pieces_left, closed}
+use Rattle.std.specs.List.{onto_first}
+use Rattle.std.specs.Option.{option_map}
+use Rattle.std.proofs.lemmas.Bool.Decides.{nat_tests}
+use Rattle.std.proofs.lemmas.List.{nil_from_length}
+use Rattle.script.specs.Pieces.{others, pieces_left, closed}
 use Rattle.script.specs.Lines.{lines_of, first_line, after_line, Joined}
-use Rattle.script.proofs.PieceLaw.{pieces_cut, size_left, others_less}
+use Rattle.script.proofs.PieceLaw.{pieces_cut}
 
 -- s is the lines ls, with byte 10 after each, or after each but the last
 abbrev Makes : List (List ℕ) → List ℕ → Type 0
 Makes ls s = (s ≡ closed 10 ls) ⊎ (s ++ (10 ∷ []) ≡ closed 10 ls)
 
-makes_onto : (c : ℕ) (ls : List (List ℕ)) (s : List ℕ) → Makes ls s → Makes (onto c ls) (c ∷ s)
+makes_onto : (c : ℕ) (ls : List (List ℕ)) (s : List ℕ) → Makes ls s
+    → Makes (onto_first c ls) (c ∷ s)
 makes_onto c [] s (inl e) = inr (ap (λ x. c ∷ (x ++ (10 ∷ []))) e)
 makes_onto c [] s (inr e) =
     let l : length (s ++ (10 ∷ [])) ≡ 0 = ap length e in
@@ -37,27 +42,36 @@ no_line : (o : Option (List ℕ)) → pieces_left 10 [] o ≡ lines_of (unwrap_o
 no_line None = refl
 no_line (Some s) = refl
 
-lines_cut : (s : List ℕ) → 0 < length s → lines_of s ≡ first_line s ∷ lines_of (after_line s)
+pub lines_cut : (s : List ℕ) → 0 < length s → lines_of s ≡ first_line s ∷ lines_of (after_line s)
 lines_cut [] h = absurd (omega arith)
 lines_cut (c ∷ cs) h =
     let k = pieces_cut 10 [] (λ _. refl) c cs in
     k ∙ ap (λ ls. first_line (c ∷ cs) ∷ ls) (no_line (others 10 (c ∷ cs)))
 
-less : (r n : List ℕ) (o : Option (List ℕ)) → 0 < length n → r ≡ unwrap_or o []
-    → size_left o ≤ length n → length r < length n
-less r n None h v l = rw v (omega arith)
-less r n (Some x) h v l = rw v (omega arith)
+-- what is left, as a list
+pub left_now : (o : Option (Bor (List ℕ))) (d : Bor (List ℕ)) → d.now ≡ []
+    → (unwrap_or o d).now ≡ unwrap_or (option_map (λ x. x.now) o) []
+left_now None d e = e
+left_now (Some x) d e = refl
 
--- a first line, and what is left
-pub record Next (s line rest : List ℕ) : Type 0 where
-  pub after : rest ≡ after_line s
-  pub shorter : length rest < length s
-  pub lines : lines_of s ≡ line ∷ lines_of rest
+pub nil_lines : (s : List ℕ) → s ≡ [] → lines_of s ≡ []
+nil_lines s e = ap lines_of e
 
-pub next : (s line rest : List ℕ) (o : Option (List ℕ)) → 0 < length s → line ≡ first_line s
-    → o ≡ others 10 s → rest ≡ unwrap_or o [] → Next s line rest
-next s line rest o h e q v =
-    let a : rest ≡ after_line s = v ∙ ap (λ x. unwrap_or x []) q in
-    let l = others_less 10 s in
-    let k = lines_cut s h in
-    record { after = a; shorter = less rest s o h v (rw (sym q) at l); lines = cc }
+pub next_shorter : (s : List ℕ) → 0 < length s → length (after_line s) < length s
+next_shorter s h = grind (arith, nat_tests, length-drop)
+
+pub ruleset line_facts = (joined, lines_cut, next_shorter, left_now, nil_lines, nil_from_length)
+
+-- a line has a byte of its own
+length_onto : (c : ℕ) (ls : List (List ℕ)) → length (onto_first c ls) ≤ 1 + length ls
+length_onto c [] = omega arith
+length_onto c (l ∷ ls) = omega arith
+
+pub lines_at_most : (s : List ℕ) → length (lines_of s) ≤ length s
+lines_at_most [] = omega arith
+lines_at_most (c ∷ cs) =
+    let h = lines_at_most cs in
+    ⊎_elim
+    (λ (t : eqb c 10 ≡ true). rw t (omega arith))
+    (λ (f : eqb c 10 ≡ false). let o = length_onto c (lines_of cs) in rw f (omega arith))
+    (cases_Bool (eqb c 10))

@@ -8,6 +8,7 @@ use Rattle.std.proofs.lemmas.Bool.Decides.{nat_tests}
 use Rattle.std.proofs.lemmas.Str.Parse.{IsNumeralModel, numerals_by_fold, tells_all_ascii_digits}
 use Rattle.std.proofs.lemmas.Fmt.{decimal-digits_value, digits_value-decimal, digits_decimal}
 use Rattle.std.proofs.lemmas.Fmt.{decimal_digit, decimal_nonempty, first_decimal}
+use Rattle.std.proofs.lemmas.Option.{none-some}
 use Rattle.script.specs.Numbers.{takes, digits_on, bad_start, number_of, Decimal}
 
 abbrev value_on : ℕ → List ℕ → ℕ
@@ -27,9 +28,6 @@ record Read (s : List ℕ) (n m : ℕ) : Type 0 where
   value : value_on n s ≡ m
   bound : m < 2 ^ 64
 
-pub never : {X T : Type 0} (x : T) → ◌≡◌ {A = Option T} None (Some x) → X
-never x q = let z : ◌≡◌ {A = ℕ} 0 1 = cc in absurd (omega arith)
-
 one_more : (c : ℕ) (cs : List ℕ) (n m : ℕ) → takes n c ≡ true
     → (n * 10 + (c - 48) < 2 ^ 64 → Read cs (n * 10 + (c - 48)) m) → Read (c ∷ cs) n m
 one_more c cs n m t more =
@@ -44,7 +42,7 @@ on_gives [] n m h q =
 on_gives (c ∷ cs) n m h q =
     ⊎_elim
     (λ (t : takes n c ≡ true). one_more c cs n m t (λ l. on_gives cs _ m l (rw t at q)))
-    (λ (f : takes n c ≡ false). never m (rw f at q))
+    (λ (f : takes n c ≡ false). absurd (none-some m (rw f at q)))
     (cases_Bool (takes n c))
 
 on_back : (s : List ℕ) (n : ℕ) → all_ascii_digits s ≡ true → value_on n s < 2 ^ 64
@@ -60,7 +58,7 @@ on_back (c ∷ cs) n d h =
 pub number_gives : (s : List ℕ) (n : ℕ) → number_of s ≡ Some n → (s ≡ decimal n) × (n < 2 ^ 64)
 number_gives s n q =
     ⊎_elim
-    (λ (t : bad_start s ≡ true). never n (rw t at q))
+    (λ (t : bad_start s ≡ true). absurd (none-some n (rw t at q)))
     (λ (f : bad_start s ≡ false). go f (on_gives s 0 n (omega arith) (rw f at q)))
     (cases_Bool (bad_start s))
   where
@@ -95,5 +93,4 @@ decimal_law s None e =
     λ n h q.
     let a = ap number_of q in
     let b = number_back n h in
-    let z : ◌≡◌ {A = ℕ} 0 1 = cc in
-    omega arith
+    cc

@@ -1,27 +1,46 @@
--- The pieces of a list of bytes: the first, the others, and the list that they make.
-use Rattle.std.proofs.Common.{◌≡◌, ℕ, suc, ◌+◌, ◌<◌, ◌≤◌, true, false, cond, eqb, ltb, List, []}
-use Rattle.std.proofs.Common.{◌∷◌, length, drop, Some, None, Option, sym, refl, ap, ◌∙◌, ⊎_elim}
-use Rattle.std.proofs.Common.{one-add, arith, length-drop}
-use Rattle.std.proofs.lemmas.Bool.{cases_Bool, eqb-true, cases_lt, lt-ltb, le-ltb}
-use Rattle.script.specs.Pieces.{before, first, others, onto, pieces, pieces_left, led}
+-- The pieces of a list of bytes: the first and the others.
+use Rattle.std.proofs.Common.{◌≡◌, ℕ, suc, ◌+◌, ◌≤◌, true, false, eqb, ltb, List, []}
+use Rattle.std.proofs.Common.{◌∷◌, length, take, drop, Some, None, Option, sym, ap, ◌∙◌, ⊎_elim}
+use Rattle.std.proofs.Common.{one-add, arith}
+use Rattle.std.proofs.lemmas.Bool.{cases_Bool, lt-ltb}
+use Rattle.std.specs.List.{onto_first, position, position_from, position_or_len}
+use Rattle.std.specs.Option.{option_map}
+use Rattle.std.proofs.lemmas.Bool.Decides.{nat_tests}
+use Rattle.std.proofs.lemmas.List.{take_all, take_rest}
+use Rattle.std.proofs.lemmas.Iterator.Adapters.{position_from-zero}
+use Rattle.script.specs.Pieces.{first, others, pieces, pieces_left}
 
-ltb_suc : (a b : ℕ) → ltb (suc a) (suc b) ≡ ltb a b
-ltb_suc a b =
-    ⊎_elim
-    (λ (l : a < b). lt-ltb (suc a) (suc b) (omega arith) ∙ sym (lt-ltb a b l))
-    (λ (l : b ≤ a). le-ltb (suc a) (suc b) (omega arith) ∙ sym (le-ltb a b l))
-    (cases_lt a b)
+-- what a search for the first separator says of the pieces
+module _ (p : ℕ) (s : List ℕ) where
+  found : (o : Option ℕ) → o ≡ position_from (λ c. eqb c p) 0 s → position (λ c. eqb c p) s ≡ o
+  found o e = position_from-zero (λ c. eqb c p) s ∙ sym e
+
+  pub first_some : (i : ℕ) → Some i ≡ position_from (λ c. eqb c p) 0 s → first p s ≡ take i s
+  first_some i e =
+      let q = found (Some i) e in
+      let n : position_or_len (λ c. eqb c p) s ≡ i = grind (arith, nat_tests) in
+      ap (λ k. take k s) n
+
+  pub others_some : (i : ℕ) → Some i ≡ position_from (λ c. eqb c p) 0 s
+      → others p s ≡ Some (drop (i + 1) s)
+  others_some i e = ap (option_map (λ k. drop (k + 1) s)) (found (Some i) e)
+
+  pub first_none : None ≡ position_from (λ c. eqb c p) 0 s → first p s ≡ s
+  first_none e =
+      let q = found None e in
+      let n : length s ≤ position_or_len (λ c. eqb c p) s = grind (arith, nat_tests) in
+      take_all _ s n
+
+  pub others_none : None ≡ position_from (λ c. eqb c p) 0 s → others p s ≡ None
+  others_none e = ap (option_map (λ k. drop (k + 1) s)) (found None e)
+
+pub ruleset cut_facts = (first_some, others_some, first_none, others_none, take_rest)
 
 pub first_on : (p c : ℕ) (cs : List ℕ) → eqb c p ≡ false → first p (c ∷ cs) ≡ c ∷ first p cs
 first_on p c cs f = rw (f, one-add)
 
 pub others_on : (p c : ℕ) (cs : List ℕ) → eqb c p ≡ false → others p (c ∷ cs) ≡ others p cs
-others_on p c cs f =
-    let e : before p (c ∷ cs) ≡ suc (before p cs) = rw (f, one-add) in
-    let m : suc (before p cs) + 1 ≡ suc (before p cs + 1) = omega arith in
-    let F : ℕ → Option (List ℕ)
-    = λ b. cond (ltb b (suc (length cs))) (Some (drop (b + 1) (c ∷ cs))) None in
-    ap F e ∙ rw (ltb_suc, m)
+others_on p c cs f = grind (arith, nat_tests)
 
 pub first_end : (p c : ℕ) (cs : List ℕ) → eqb c p ≡ true → first p (c ∷ cs) ≡ []
 first_end p c cs t = rw t
@@ -31,7 +50,7 @@ others_end p c cs t =
     let u : ltb 0 (suc (length cs)) ≡ true = lt-ltb _ _ (omega arith) in rw (t, u)
 
 -- a list that is not empty has a first piece
-pub pieces_cut : (p : ℕ) (e : List (List ℕ)) → ((c : ℕ) → onto c e ≡ (c ∷ []) ∷ [])
+pub pieces_cut : (p : ℕ) (e : List (List ℕ)) → ((c : ℕ) → onto_first c e ≡ (c ∷ []) ∷ [])
     → (c : ℕ) (cs : List ℕ)
     → pieces p e (c ∷ cs) ≡ first p (c ∷ cs) ∷ pieces_left p e (others p (c ∷ cs))
 pieces_cut p e one c [] =
@@ -44,34 +63,4 @@ pieces_cut p e one c (d ∷ ds) =
     ⊎_elim
     (λ (t : eqb c p ≡ true). rw (first_end p c (d ∷ ds) t, others_end p c (d ∷ ds) t, t))
     (λ (f : eqb c p ≡ false). rw (first_on p c (d ∷ ds) f, others_on p c (d ∷ ds) f, f, h))
-    (cases_Bool (eqb c p))
-
--- how many bytes are left, with the separator before them
-abbrev pub size_left : Option (List ℕ) → ℕ
-size_left None = 0
-size_left (Some s) = 1 + length s
-
-pub others_less : (p : ℕ) (s : List ℕ) → size_left (others p s) ≤ length s
-others_less p s =
-    ⊎_elim
-    (λ (l : before p s < length s).
-    let t : ltb (before p s) (length s) ≡ true = lt-ltb _ _ l in
-    rw t (simp length-drop (omega arith)))
-    (λ (l : length s ≤ before p s).
-    let f : ltb (before p s) (length s) ≡ false = le-ltb _ _ l in
-    rw f (omega arith))
-    (cases_lt (before p s) (length s))
-
-led_onto : (p c : ℕ) (ps : List (List ℕ)) → led p (onto c ps) ≡ p ∷ (c ∷ drop 1 (led p ps))
-led_onto p c [] = refl
-led_onto p c (w ∷ ws) = refl
-
--- the pieces, each after a separator, make the list after one
-pub led_pieces : (p : ℕ) (s : List ℕ) → led p (pieces p ([] ∷ []) s) ≡ p ∷ s
-led_pieces p [] = refl
-led_pieces p (c ∷ cs) =
-    let h = led_pieces p cs in
-    ⊎_elim
-    (λ (t : eqb c p ≡ true). rw (t, h, eqb-true c p t))
-    (λ (f : eqb c p ≡ false). rw (f, led_onto, h))
     (cases_Bool (eqb c p))

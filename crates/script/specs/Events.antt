@@ -1,6 +1,8 @@
 -- The events, their letters, and what follows the letters.
-use Rattle.std.specs.Prelude.{ℕ, Bool, true, cond, ◌&&◌, ◌||◌, List, [], ◌∷◌, length, Some, None}
+use Rattle.std.specs.Prelude.{ℕ, Bool, cond, ◌&&◌, List, length, Some, None}
 use Rattle.std.specs.Prelude.{Option, ◌==◌, nat_le, slice_index}
+use Rattle.std.specs.Char.{is_ascii_alphanumeric}
+use Rattle.std.specs.List.{list_all}
 use Rattle.script.specs.declared.events.Event.{Event}
 use Rattle.script.specs.declared.events.Event.TheVariants as E
 use Rattle.script.specs.declared.events.EventKind.{EventKind}
@@ -61,32 +63,23 @@ kind_for c =
 abbrev pub counted : ℕ → List ℕ → Said → Option Said
 counted k ns e = cond (length ns == k) (Some e) None
 
-abbrev pub nth : List ℕ → ℕ → ℕ
-nth ns k = slice_index ns k
-
 -- the numbers stand in the order stamp, attempt, granule, code
 abbrev pub with_numbers : EventKind → List ℕ → Option Said
 with_numbers K.Open ns = counted 0 ns open_event
 with_numbers K.Begin ns = None
-with_numbers K.Read ns = counted 3 ns (read_event (nth ns 0) (nth ns 1) (nth ns 2))
+with_numbers K.Read ns =
+    counted 3 ns (read_event (slice_index ns 0) (slice_index ns 1) (slice_index ns 2))
 with_numbers K.Write ns =
-    counted 4 ns (write_event (nth ns 0) (nth ns 1) (nth ns 2) (nth ns 3))
-with_numbers K.Erase ns = counted 3 ns (erase_event (nth ns 0) (nth ns 1) (nth ns 2))
-with_numbers K.Commit ns = counted 2 ns (commit_event (nth ns 0) (nth ns 1))
-with_numbers K.RollBack ns = counted 2 ns (roll_back_event (nth ns 0) (nth ns 1))
+    counted 4 ns
+    (write_event (slice_index ns 0) (slice_index ns 1) (slice_index ns 2) (slice_index ns 3))
+with_numbers K.Erase ns =
+    counted 3 ns (erase_event (slice_index ns 0) (slice_index ns 1) (slice_index ns 2))
+with_numbers K.Commit ns = counted 2 ns (commit_event (slice_index ns 0) (slice_index ns 1))
+with_numbers K.RollBack ns = counted 2 ns (roll_back_event (slice_index ns 0) (slice_index ns 1))
 with_numbers K.Advance ns = counted 0 ns advance_event
-with_numbers K.Status ns = counted 1 ns (status_event (nth ns 0))
-with_numbers K.Notice ns = counted 1 ns (notice_event (nth ns 0))
+with_numbers K.Status ns = counted 1 ns (status_event (slice_index ns 0))
+with_numbers K.Notice ns = counted 1 ns (notice_event (slice_index ns 0))
 
 -- a tablet's name has 1 to 8 letters or digits
-abbrev pub alphanumeric : ℕ → Bool
-alphanumeric c =
-    (nat_le 48 c && nat_le c 57)
-    || ((nat_le 65 c && nat_le c 90) || (nat_le 97 c && nat_le c 122))
-
-abbrev pub all_alphanumeric : List ℕ → Bool
-all_alphanumeric [] = true
-all_alphanumeric (c ∷ cs) = alphanumeric c && all_alphanumeric cs
-
 abbrev pub name_ok : List ℕ → Bool
-name_ok n = nat_le 1 (length n) && (nat_le (length n) 8 && all_alphanumeric n)
+name_ok n = nat_le 1 (length n) && (nat_le (length n) 8 && list_all is_ascii_alphanumeric n)

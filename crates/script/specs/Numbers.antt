@@ -1,11 +1,12 @@
 -- Decimal numbers below 2^64 with no leading zero.
 use Rattle.std.specs.Prelude.{◌≡◌, ℕ, ◌+◌, ◌-◌, ◌*◌, ◌^◌, ◌<◌, Bool, cond, ◌&&◌, ◌||◌, List, []}
-use Rattle.std.specs.Prelude.{◌∷◌, length, Some, None, decimal, Option, ◌==◌, ◌≢◌, nat_le, nat_lt}
+use Rattle.std.specs.Prelude.{◌∷◌, length, Some, None, decimal, Option, ◌==◌, ◌≢◌, nat_lt}
 use Rattle.std.specs.Prelude.{slice_index}
+use Rattle.std.specs.Char.{is_ascii_digit}
 
 -- c is a digit, and the number with it stays below 2^64
 abbrev pub takes : ℕ → ℕ → Bool
-takes n c = nat_le 48 c && (nat_le c 57 && nat_lt (n * 10 + (c - 48)) (2 ^ 64))
+takes n c = is_ascii_digit c && nat_lt (n * 10 + (c - 48)) (2 ^ 64)
 
 abbrev pub digit_on : ℕ → ℕ → Option ℕ
 digit_on n c = cond (takes n c) (Some (n * 10 + (c - 48))) None

@@ -1,6 +1,6 @@
 // The events of a script. A begin keeps the tablet's name as a part of the script.
 
-#[derive(Clone, Copy)]
+#[derive(Clone, Copy, PartialEq, Eq, Debug)]
 pub enum Event<'a> {
     Open,
     Begin {
@@ -40,7 +40,7 @@ pub enum Event<'a> {
     },
 }
 
-#[derive(Clone, Copy)]
+#[derive(Clone, Copy, PartialEq, Eq, Debug)]
 pub enum EventKind {
     Open,
     Begin,

@@ -7,9 +7,11 @@ mod lines;
 mod numbers;
 mod parse;
 mod pieces;
+mod unread;
 
 pub use events::{Event, EventKind};
 pub use letters::kind_of;
-pub use lines::{Cut, MAX_SCRIPT, fits, next_line};
+pub use lines::{Cut, Lines, MAX_SCRIPT, fits, next_line};
 pub use numbers::number;
 pub use parse::event;
+pub use unread::Unread;

@@ -6,16 +6,12 @@ ghost use Rattle.script.specs.Numbers.{digit_on, digits_on, number_of, Decimal};
 fn with_digit(n: u64, byte: u8) -> Option<u64>
     ensures { result ≡ digit_on n byte }
 {
-    if byte < b'0' || byte > b'9' {
-        return None;
-    }
-    let digit = (byte - b'0') as u64;
-    if n > (u64::MAX - digit) / 10 {
-        return None;
-    }
-    Some(n * 10 + digit)
+    let digit = char::from(byte).to_digit(10)?;
+    n.checked_mul(10)?.checked_add(u64::from(digit))
 }
 
+// A loop with `?`, since the check did not prove the same `try_fold`.
+#[tactic(auto, using(crate::proofs::Steps::digit_facts))]
 fn digits(bytes: &[u8]) -> Option<u64>
     ensures { result ≡ digits_on 0 bytes.now }
 {
@@ -27,11 +23,12 @@ fn digits(bytes: &[u8]) -> Option<u64>
 }
 
 // A number below 2^64 with no leading zero.
+#[tactic(auto, using(crate::proofs::NumberLaw::decimal_law))]
 pub fn number(bytes: &[u8]) -> Option<u64>
     ensures value { result ≡ number_of bytes.now }
     ensures decimal { Decimal bytes.now result }
 {
-    if bytes.len() == 0 || (bytes.len() > 1 && bytes[0] == b'0') {
+    if matches!(bytes, [] | [b'0', _, ..]) {
         return None;
     }
     digits(bytes)

@@ -1,8 +1,11 @@
 // The event that a line is.
-ghost use Rattle.std.specs.Prelude.{◌≡◌, []};
-ghost use Rattle.std.specs.Option.{option_map};
-ghost use Rattle.script.specs.Events.{said, with_numbers, alphanumeric, name_ok};
+ghost use Rattle.std.specs.Prelude.{◌≡◌, IfSome};
+ghost use Rattle.std.specs.Char.{is_ascii_alphanumeric};
+ghost use Rattle.std.specs.List.{list_all};
+ghost use Rattle.std.specs.Option.{option_map, option_and_then};
+ghost use Rattle.script.specs.Events.{said, name_ok};
 ghost use Rattle.script.specs.Reading.{begin_of, plain_from, event_in, event_of};
+ghost use Rattle.script.specs.Reading.{next_number, after_number, at_end, read_from};
 ghost use Rattle.script.specs.Writing.{Format};
 
 use crate::events::{Event, EventKind};
@@ -12,6 +15,7 @@ use crate::pieces::cut_at;
 
 const MAX_LINE: usize = 64;
 
+#[tactic(auto, using(crate::proofs::FormatLaw::format_law))]
 pub fn event(line: &[u8]) -> Option<Event<'_>>
     ensures value { option_map said result ≡ event_of line.now }
     ensures format { Format line.now (option_map said result) }
@@ -26,14 +30,14 @@ pub fn event(line: &[u8]) -> Option<Event<'_>>
 fn event_in(line: &[u8]) -> Option<Event<'_>>
     ensures { option_map said result ≡ event_in line.now }
 {
-    let letter = cut_at(line, b' ');
-    if letter.bytes.len() != 1 {
+    let word = cut_at(line, b' ');
+    let [letter] = *word.bytes else {
         return None;
-    }
-    let kind = kind_of(letter.bytes[0] as char)?;
+    };
+    let kind = kind_of(char::from(letter))?;
     match kind {
-        EventKind::Begin => begin(letter.rest?),
-        _ => plain(kind, letter.rest),
+        EventKind::Begin => begin(word.rest?),
+        _ => plain(kind, word.rest),
     }
 }
 
@@ -41,139 +45,105 @@ fn event_in(line: &[u8]) -> Option<Event<'_>>
 fn begin(s: &[u8]) -> Option<Event<'_>>
     ensures { option_map said result ≡ begin_of s.now }
 {
-    let stamp = cut_at(s, b' ');
-    let name = stamp.rest?;
-    let stamp = number(stamp.bytes)?;
-    if !is_name(name) {
-        return None;
-    }
-    Some(Event::Begin { stamp, name })
+    let mut words = Words { left: Some(s) };
+    let stamp = words.number()?;
+    let name = words.left?;
+    is_name(name).then_some(Event::Begin { stamp, name })
 }
 
+// A tablet's name has 1 to 8 letters or digits.
 fn is_name(s: &[u8]) -> bool
     ensures { result ≡ name_ok s.now }
 {
-    if s.len() < 1 || s.len() > 8 {
-        return false;
+    (1..=8).contains(&s.len()) && is_alphanumeric(s)
+}
+
+fn is_alphanumeric(s: &[u8]) -> bool
+    ensures { result ≡ list_all is_ascii_alphanumeric s.now }
+{
+    s.iter().all(|byte| byte.is_ascii_alphanumeric())
+}
+
+// The words that are left of a line.
+#[derive(Clone, Copy)]
+struct Words<'a> {
+    // what follows the space before them, if there is one
+    left: Option<&'a [u8]>,
+}
+
+impl Words<'_> {
+    // The next word as a number.
+    fn number(&mut self) -> Option<u64>
+        ensures value { result ≡ next_number (option_map (λ x. x.now) self.old.left) }
+        ensures rest { IfSome result (λ _.
+            option_map (λ x. x.now) self.new.left
+            ≡ after_number (option_map (λ x. x.now) self.old.left)) }
+    {
+        let word = cut_at(self.left?, b' ');
+        self.left = word.rest;
+        number(word.bytes)
     }
-    for byte in s {
-        if !is_alphanumeric(*byte) {
-            return false;
+
+    // The next word as a granule.
+    fn granule(&mut self) -> Option<usize>
+        ensures value { result ≡ next_number (option_map (λ x. x.now) self.old.left) }
+        ensures rest { IfSome result (λ _.
+            option_map (λ x. x.now) self.new.left
+            ≡ after_number (option_map (λ x. x.now) self.old.left)) }
+    {
+        usize::try_from(self.number()?).ok()
+    }
+
+    // An event of a kind by as many words as it has numbers.
+    fn event<'b>(&mut self, kind: EventKind) -> Option<Event<'b>>
+        ensures { option_and_then
+            (λ e. at_end e (option_map (λ x. x.now) self.new.left)) (option_map said result)
+            ≡ read_from kind (option_map (λ x. x.now) self.old.left) }
+    {
+        match kind {
+            EventKind::Open => Some(Event::Open),
+            EventKind::Begin => None,
+            EventKind::Read => Some(Event::Read {
+                stamp: self.number()?,
+                attempt: self.number()?,
+                granule: self.granule()?,
+            }),
+            EventKind::Write => Some(Event::Write {
+                stamp: self.number()?,
+                attempt: self.number()?,
+                granule: self.granule()?,
+                code: self.number()?,
+            }),
+            EventKind::Erase => Some(Event::Erase {
+                stamp: self.number()?,
+                attempt: self.number()?,
+                granule: self.granule()?,
+            }),
+            EventKind::Commit => Some(Event::Commit {
+                stamp: self.number()?,
+                attempt: self.number()?,
+            }),
+            EventKind::RollBack => Some(Event::RollBack {
+                stamp: self.number()?,
+                attempt: self.number()?,
+            }),
+            EventKind::Advance => Some(Event::Advance),
+            EventKind::Status => Some(Event::Status {
+                stamp: self.number()?,
+            }),
+            EventKind::Notice => Some(Event::Notice {
+                number: self.number()?,
+            }),
         }
     }
-    true
 }
 
-fn is_alphanumeric(byte: u8) -> bool
-    ensures { result ≡ alphanumeric byte }
+// Any other event by what follows its letter and a space: numbers alone.
+#[tactic(auto, using(crate::proofs::WordLaw::reads))]
+fn plain<'a>(kind: EventKind, left: Option<&'a [u8]>) -> Option<Event<'a>>
+    ensures { option_map said result ≡ plain_from kind (option_map (λ x. x.now) left.entry) }
 {
-    match byte {
-        b'0'..=b'9' | b'A'..=b'Z' | b'a'..=b'z' => true,
-        _ => false,
-    }
-}
-
-// Any other event by what follows its letter and a space: numbers alone, at most four.
-fn plain<'a>(kind: EventKind, s: Option<&'a [u8]>) -> Option<Event<'a>>
-    ensures { option_map said result ≡ plain_from kind (option_map (λ x. x.now) s.entry) }
-{
-    let mut numbers = [0; 4];
-    let mut count = 0;
-    let mut left = s;
-    while let Some(words) = left {
-        if count == 4 {
-            return None;
-        }
-        let word = cut_at(words, b' ');
-        let value = number(word.bytes)?;
-        numbers[count] = value;
-        count += 1;
-        left = word.rest;
-    }
-    with_numbers(kind, &numbers[0..count])
-}
-
-// The event of a kind with these numbers, if it has as many.
-fn with_numbers<'a>(kind: EventKind, numbers: &[u64]) -> Option<Event<'a>>
-    ensures { option_map said result ≡ with_numbers kind numbers.now }
-{
-    match kind {
-        EventKind::Open => match numbers {
-            [] => Some(Event::Open),
-            _ => None,
-        },
-        EventKind::Begin => None,
-        EventKind::Read => read(numbers),
-        EventKind::Write => write(numbers),
-        EventKind::Erase => erase(numbers),
-        EventKind::Commit => match *numbers {
-            [stamp, attempt] => Some(Event::Commit { stamp, attempt }),
-            _ => None,
-        },
-        EventKind::RollBack => match *numbers {
-            [stamp, attempt] => Some(Event::RollBack { stamp, attempt }),
-            _ => None,
-        },
-        EventKind::Advance => match numbers {
-            [] => Some(Event::Advance),
-            _ => None,
-        },
-        EventKind::Status => match *numbers {
-            [stamp] => Some(Event::Status { stamp }),
-            _ => None,
-        },
-        EventKind::Notice => match *numbers {
-            [number] => Some(Event::Notice { number }),
-            _ => None,
-        },
-    }
-}
-
-fn read<'a>(numbers: &[u64]) -> Option<Event<'a>>
-    ensures { option_map said result ≡ with_numbers EventKind.Read numbers.now }
-{
-    match *numbers {
-        [stamp, attempt, granule] => {
-            let granule = granule as usize;
-            Some(Event::Read {
-                stamp,
-                attempt,
-                granule,
-            })
-        }
-        _ => None,
-    }
-}
-
-fn write<'a>(numbers: &[u64]) -> Option<Event<'a>>
-    ensures { option_map said result ≡ with_numbers EventKind.Write numbers.now }
-{
-    match *numbers {
-        [stamp, attempt, granule, code] => {
-            let granule = granule as usize;
-            Some(Event::Write {
-                stamp,
-                attempt,
-                granule,
-                code,
-            })
-        }
-        _ => None,
-    }
-}
-
-fn erase<'a>(numbers: &[u64]) -> Option<Event<'a>>
-    ensures { option_map said result ≡ with_numbers EventKind.Erase numbers.now }
-{
-    match *numbers {
-        [stamp, attempt, granule] => {
-            let granule = granule as usize;
-            Some(Event::Erase {
-                stamp,
-                attempt,
-                granule,
-            })
-        }
-        _ => None,
-    }
+    let mut words = Words { left };
+    let event = words.event(kind)?;
+    words.left.is_none().then_some(event)
 }

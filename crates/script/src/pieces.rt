@@ -1,5 +1,6 @@
 // The bytes before a separator, and those after it.
-ghost use Rattle.std.specs.Prelude.{◌≡◌};
+ghost use Rattle.std.specs.Prelude.{◌≡◌, ◌<◌, ◌==◌, length, IfSome};
+ghost use Rattle.std.specs.List.{position_from};
 ghost use Rattle.std.specs.Option.{option_map};
 ghost use Rattle.script.specs.Pieces.{first, others};
 
@@ -10,20 +11,27 @@ pub struct Piece<'a> {
     pub rest: Option<&'a [u8]>,
 }
 
+// Where the first separator stands.
+fn place_of(s: &[u8], separator: u8) -> Option<usize>
+    ensures first { result ≡ position_from (λ c. c == separator) 0 s.now }
+    ensures inside { IfSome result (λ i. i < length s.now) }
+{
+    s.iter().position(|byte| *byte == separator)
+}
+
+#[tactic(auto, using(crate::proofs::PieceLaw::cut_facts))]
 pub fn cut_at(s: &[u8], separator: u8) -> Piece<'_>
     ensures bytes { result.bytes.now ≡ first separator s.now }
     ensures rest { option_map (λ x. x.now) result.rest ≡ others separator s.now }
 {
-    for (i, byte) in s.iter().enumerate() {
-        if *byte == separator {
-            return Piece {
-                bytes: &s[0..i],
-                rest: Some(&s[i + 1..]),
-            };
-        }
-    }
-    Piece {
-        bytes: s,
-        rest: None,
+    match place_of(s, separator) {
+        Some(i) => Piece {
+            bytes: &s[..i],
+            rest: Some(&s[i + 1..]),
+        },
+        None => Piece {
+            bytes: s,
+            rest: None,
+        },
     }
 }

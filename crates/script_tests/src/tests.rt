@@ -5,59 +5,72 @@ use script::*;
 use std::alloc::AllocError;
 use std::test::Fail;
 
-// A line's letter and numbers, and the length of a name; zeros for an unreadable line.
-fn parts(line: &[u8]) -> [u64; 5] {
-    match event(line) {
-        None => [0, 0, 0, 0, 0],
-        Some(Event::Open) => [111, 0, 0, 0, 0],
-        Some(Event::Begin { stamp, name }) => [98, stamp, name.len() as u64, 0, 0],
-        Some(
-            Event::Read {
-                stamp,
-                attempt,
-                granule,
-            },
-        ) => { [114, stamp, attempt, granule as u64, 0] }
-        Some(
-            Event::Write {
-                stamp,
-                attempt,
-                granule,
-                code,
-            },
-        ) => { [119, stamp, attempt, granule as u64, code] }
-        Some(
-            Event::Erase {
-                stamp,
-                attempt,
-                granule,
-            },
-        ) => { [101, stamp, attempt, granule as u64, 0] }
-        Some(Event::Commit { stamp, attempt }) => [99, stamp, attempt, 0, 0],
-        Some(Event::RollBack { stamp, attempt }) => [107, stamp, attempt, 0, 0],
-        Some(Event::Advance) => [115, 0, 0, 0, 0],
-        Some(Event::Status { stamp }) => [113, stamp, 0, 0, 0],
-        Some(Event::Notice { number }) => [110, number, 0, 0, 0],
-    }
-}
-
 #[test]
 fn letters(rt: HostRuntime) {
-    let cases: [(&[u8], [u64; 5]); 11] = [
-        (b"o", [111, 0, 0, 0, 0]),
-        (b"b 8 P3", [98, 8, 2, 0, 0]),
-        (b"b 1 Az09zZ19", [98, 1, 8, 0, 0]),
-        (b"r 8 1 9", [114, 8, 1, 9, 0]),
-        (b"w 8 1 9 41", [119, 8, 1, 9, 41]),
-        (b"e 8 1 9", [101, 8, 1, 9, 0]),
-        (b"c 8 1", [99, 8, 1, 0, 0]),
-        (b"k 8 1", [107, 8, 1, 0, 0]),
-        (b"s", [115, 0, 0, 0, 0]),
-        (b"q 0", [113, 0, 0, 0, 0]),
-        (b"n 18446744073709551615", [110, u64::MAX, 0, 0, 0]),
+    let cases: [(&[u8], Event<'_>); 11] = [
+        (b"o", Event::Open),
+        (
+            b"b 8 P3",
+            Event::Begin {
+                stamp: 8,
+                name: b"P3",
+            },
+        ),
+        (
+            b"b 1 Az09zZ19",
+            Event::Begin {
+                stamp: 1,
+                name: b"Az09zZ19",
+            },
+        ),
+        (
+            b"r 8 1 9",
+            Event::Read {
+                stamp: 8,
+                attempt: 1,
+                granule: 9,
+            },
+        ),
+        (
+            b"w 8 1 9 41",
+            Event::Write {
+                stamp: 8,
+                attempt: 1,
+                granule: 9,
+                code: 41,
+            },
+        ),
+        (
+            b"e 8 1 9",
+            Event::Erase {
+                stamp: 8,
+                attempt: 1,
+                granule: 9,
+            },
+        ),
+        (
+            b"c 8 1",
+            Event::Commit {
+                stamp: 8,
+                attempt: 1,
+            },
+        ),
+        (
+            b"k 8 1",
+            Event::RollBack {
+                stamp: 8,
+                attempt: 1,
+            },
+        ),
+        (b"s", Event::Advance),
+        (b"q 0", Event::Status { stamp: 0 }),
+        (
+            b"n 18446744073709551615",
+            Event::Notice { number: u64::MAX },
+        ),
     ];
     for (line, expected) in cases {
-        assert_eq!(rt; parts(line), expected);
+        assert_eq!(rt; event(line), Some(expected));
     }
 }
 
@@ -135,23 +148,14 @@ fn long_lines(rt: HostRuntime) {
 }
 
 // How many lines a script has, and how many of them are events.
-fn count(script: &[u8]) -> [u64; 2] {
-    let mut lines = 0u64;
-    let mut events = 0u64;
-    let mut left = script;
-    while let Some(cut) = next_line(left) {
-        lines = lines.saturating_add(1);
-        if event(cut.line).is_some() {
-            events = events.saturating_add(1);
-        }
-        left = cut.rest;
-    }
-    [lines, events]
+fn count(script: &[u8]) -> [usize; 2] {
+    let events = Lines::of(script).filter(|line| event(line).is_some());
+    [Lines::of(script).count(), events.count()]
 }
 
 #[test]
 fn lines(rt: HostRuntime) {
-    let cases: [(&[u8], [u64; 2]); 7] = [
+    let cases: [(&[u8], [usize; 2]); 7] = [
         (b"", [0, 0]),
         (b"\n", [1, 0]),
         (b"o", [1, 1]),
@@ -174,7 +178,7 @@ fn answer(
 ) -> Result<(), AllocError> {
     match event(line) {
         Some(event) => push_answer(out, &event, outcome),
-        None => push_unreadable(out),
+        None => push_unread(out, Unread::Line),
     }
 }
 
@@ -268,7 +272,7 @@ fn refused(rt: HostRuntime) -> Result<(), Fail> {
         (b"p 8", Err(Refusal::NotOpened)),
     ];
     answers(&mut out, &cases)?;
-    push_too_long(&mut out)?;
+    push_unread(&mut out, Unread::Script)?;
     let expected = b"r no 8 2\nb no 3 17\nw no 14\nr no 11 9 22 3 1\nr no 15 7\nk no 9 3\n\
         ? no 16\n? no 17\n";
     assert!(rt; out.as_slice() == expected.as_slice());

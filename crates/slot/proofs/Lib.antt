@@ -1,3 +1,4 @@
+pub mod Chains
 mod Loops
 pub mod Places
 mod Writes

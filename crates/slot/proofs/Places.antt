@@ -1,110 +1,102 @@
 -- The slot that a search has found, in the list of what the slots mean.
-use Rattle.std.proofs.Common.{◌≡◌, ℕ, suc, ◌+◌, ◌≤◌, Bool, true, false, cond, List, [], ◌∷◌, map}
+use Rattle.std.proofs.Common.{◌≡◌, ℕ, suc, ◌<◌, ◌≤◌, Bool, true, false, cond, List, [], ◌∷◌, map}
 use Rattle.std.proofs.Common.{length, get_or, set, Some, None, sym, refl, ap, ◌∙◌, ⊎_elim, arith}
+use Rattle.std.specs.List.{position_from}
 use Rattle.std.proofs.lemmas.List.{map-set, get_or-map, set_past, length-map}
 use Rattle.std.proofs.lemmas.Bool.{cases_lt}
 use Rattle.std.proofs.lemmas.Bool.Decides.{nat_tests}
 use Rattle.model.specs.Slots as M
-use Rattle.slot.specs.Changes.{first_from}
-use Rattle.slot.specs.Means.{Stands}
+use Rattle.model.specs.Worlds.{slot_with}
+use Rattle.slot.specs.declared.slot.Slot.{Slot}
+use Rattle.slot.specs.Changes.{noted}
+use Rattle.slot.specs.Means.{Stands, slot_of, slots_of}
+use Rattle.slot.proofs.Chains.{position_of, at_place, nowhere}
 
--- what a search that counts from n found
-pub record Found (t : ℕ) (xs : List M.Slot) (n i : ℕ) : Type 0 where
-  pub place : ℕ
-  pub counted : i ≡ n + place
-  pub stands : Stands t xs place
+-- the slot that has the stamp t
 
-found_from : (t : ℕ) (xs : List M.Slot) (n i : ℕ) → first_from (M.holds t) n xs ≡ Some i
-    → Found t xs n i
-found_from t [] n i e = absurd (grind arith)
-found_from t (x ∷ xs) n i e = go (M.holds t x) refl (λ q. found_from t xs (n + 1) i q) e
-  where
-    go : (b : Bool) → M.holds t x ≡ b
-        → (first_from (M.holds t) (n + 1) xs ≡ Some i → Found t xs (n + 1) i)
-        → cond b (Some n) (first_from (M.holds t) (n + 1) xs) ≡ Some i → Found t (x ∷ xs) n i
-    go true q r e = record {
-      place = 0;
-      counted = let z : n ≡ i = cc in omega arith;
-      stands = record { held = rw q; changes = λ f. rw q };
-    }
-    go false q r e =
-        let s = r e in
-        record {
-          place = suc s.place;
-          counted = omega (arith, s.counted);
-          stands = record {
-            held = rw q s.stands.held;
-            changes = λ f. rw (q, s.stands.changes f);
-          };
-        }
+module _ (t : ℕ) where
+  stands_here : (x : M.Slot) (xs : List M.Slot) → M.holds t x ≡ true → Stands t (x ∷ xs) 0
+  stands_here x xs q = record { held = rw q; changes = λ f. rw q }
 
-pub stands : (t : ℕ) (xs : List M.Slot) (i : ℕ) → Some i ≡ first_from (M.holds t) 0 xs
-    → Stands t xs i
-stands t xs i e =
-    let f = found_from t xs 0 i (sym e) in
-    let q : f.place ≡ i = omega (arith, f.counted) in
-    rw q at f.stands
+  stands_next : (x : M.Slot) (xs : List M.Slot) (i : ℕ) → M.holds t x ≡ false → Stands t xs i
+      → Stands t (x ∷ xs) (suc i)
+  stands_next x xs i q s = record { held = rw q s.held; changes = λ f. rw (q, s.changes f) }
 
-not_from : (t : ℕ) (xs : List M.Slot) (n : ℕ) → first_from (M.holds t) n xs ≡ None
-    → M.held t xs ≡ None
-not_from t [] n e = refl
-not_from t (x ∷ xs) n e = let r = not_from t xs (n + 1) in grind (arith, nat_tests)
+  pub stands : (xs : List Slot) (i : ℕ) → Some i ≡ position_from (λ x. M.holds t (slot_of x)) 0 xs
+      → Stands t (slots_of xs) i
+  stands xs i e =
+      at_place (M.holds t) (Stands t) stands_here stands_next (slots_of xs) i
+      (e ∙ sym (position_of (M.holds t) slot_of 0 xs))
 
-pub not_held : (t : ℕ) (xs : List M.Slot) → None ≡ first_from (M.holds t) 0 xs
-    → M.held t xs ≡ None
-not_held t xs e = not_from t xs 0 (sym e)
+  pub not_held : (xs : List Slot) → None ≡ position_from (λ x. M.holds t (slot_of x)) 0 xs
+      → M.held t (slots_of xs) ≡ None
+  not_held xs e =
+      nowhere (M.holds t) (λ ys. M.held t ys ≡ None) refl (λ x ys q k. rw q k) (slots_of xs)
+      (e ∙ sym (position_of (M.holds t) slot_of 0 xs))
 
-pub adjust_none : (t : ℕ) (f : M.Slot → M.Slot) (xs : List M.Slot) → M.held t xs ≡ None
-    → M.adjust t f xs ≡ xs
-adjust_none t f [] e = refl
-adjust_none t f (x ∷ xs) e = let r = adjust_none t f xs in grind (arith, nat_tests)
+  pub adjust_none : (f : M.Slot → M.Slot) (xs : List M.Slot) → M.held t xs ≡ None
+      → M.adjust t f xs ≡ xs
+  adjust_none f [] e = refl
+  adjust_none f (x ∷ xs) e = let r = adjust_none f xs in grind (arith, nat_tests)
 
--- the first free slot is at i
-pub record Vacant (xs : List M.Slot) (i : ℕ) : Type 0 where
+  -- what is done to that slot counts, and nothing else of a change
+  pub adjust_as : (f h : M.Slot → M.Slot) (xs : List M.Slot) (x : M.Slot)
+      → M.held t xs ≡ Some x → f x ≡ h x → M.adjust t f xs ≡ M.adjust t h xs
+  adjust_as f h [] x e q = refl
+  adjust_as f h (y ∷ ys) x e q = go (M.holds t y) refl (λ k. adjust_as f h ys x k q) e
+    where
+      go : (b : Bool) → M.holds t y ≡ b
+          → (M.held t ys ≡ Some x → M.adjust t f ys ≡ M.adjust t h ys)
+          → cond b (Some y) (M.held t ys) ≡ Some x
+          → M.adjust t f (y ∷ ys) ≡ M.adjust t h (y ∷ ys)
+      go true b r k = let z : y ≡ x = cc in rw (b, z) (ap (λ v. v ∷ ys) q)
+      go false b r k = rw b (ap (λ v. y ∷ v) (r k))
+
+  adjust_nothing : (xs : List M.Slot) → M.adjust t (λ x. x) xs ≡ xs
+  adjust_nothing [] = refl
+  adjust_nothing (x ∷ xs) = let r = adjust_nothing xs in grind (arith, nat_tests)
+
+  pub adjust_kept : (f : M.Slot → M.Slot) (xs : List M.Slot) (x : M.Slot)
+      → M.held t xs ≡ Some x → f x ≡ x → M.adjust t f xs ≡ xs
+  adjust_kept f xs x e q = adjust_as f (λ y. y) xs x e q ∙ adjust_nothing xs
+
+-- the first free slot
+
+record Vacant (xs : List M.Slot) (i : ℕ) : Type 0 where
   pub some : M.full xs ≡ false
   pub places : (y : M.Slot) → M.place y xs ≡ set xs i y
 
-record Vacancy (xs : List M.Slot) (n i : ℕ) : Type 0 where
-  pub place : ℕ
-  pub counted : i ≡ n + place
-  pub vacant : Vacant xs place
-
-vacant_from : (xs : List M.Slot) (n i : ℕ) → first_from M.is_free n xs ≡ Some i
-    → Vacancy xs n i
-vacant_from [] n i e = absurd (grind arith)
-vacant_from (x ∷ xs) n i e = go (M.is_free x) refl (λ q. vacant_from xs (n + 1) i q) e
-  where
-    go : (b : Bool) → M.is_free x ≡ b
-        → (first_from M.is_free (n + 1) xs ≡ Some i → Vacancy xs (n + 1) i)
-        → cond b (Some n) (first_from M.is_free (n + 1) xs) ≡ Some i → Vacancy (x ∷ xs) n i
-    go true q r e = record {
-      place = 0;
-      counted = let z : n ≡ i = cc in omega arith;
-      vacant = record { some = rw q; places = λ y. rw q };
-    }
-    go false q r e =
-        let s = r e in
-        record {
-          place = suc s.place;
-          counted = omega (arith, s.counted);
-          vacant = record {
-            some = rw q s.vacant.some;
-            places = λ y. rw (q, s.vacant.places y);
-          };
-        }
-
-pub vacant : (xs : List M.Slot) (i : ℕ) → Some i ≡ first_from M.is_free 0 xs → Vacant xs i
+vacant : (xs : List Slot) (i : ℕ) → Some i ≡ position_from (λ x. M.is_free (slot_of x)) 0 xs
+    → Vacant (slots_of xs) i
 vacant xs i e =
-    let f = vacant_from xs 0 i (sym e) in
-    let q : f.place ≡ i = omega (arith, f.counted) in
-    rw q at f.vacant
+    at_place M.is_free Vacant
+    (λ x ys q. record { some = rw q; places = λ y. rw q })
+    (λ x ys k q v. record { some = rw q v.some; places = λ y. rw (q, v.places y) })
+    (slots_of xs) i (e ∙ sym (position_of M.is_free slot_of 0 xs))
 
-full_from : (xs : List M.Slot) (n : ℕ) → first_from M.is_free n xs ≡ None → M.full xs ≡ true
-full_from [] n e = refl
-full_from (x ∷ xs) n e = let r = full_from xs (n + 1) in grind (arith, nat_tests)
+pub vacant_at : (xs : List Slot) (i : ℕ)
+    → Some i ≡ position_from (λ x. M.is_free (slot_of x)) 0 xs → M.full (slots_of xs) ≡ false
+vacant_at xs i e = (vacant xs i e).some
 
-pub all_held : (xs : List M.Slot) → None ≡ first_from M.is_free 0 xs → M.full xs ≡ true
-all_held xs e = full_from xs 0 (sym e)
+pub placed : (xs : List Slot) (i t : ℕ) (y : Slot)
+    → Some i ≡ position_from (λ x. M.is_free (slot_of x)) 0 xs → slot_of y ≡ M.new_slot t
+    → slots_of (set xs i y) ≡ M.place (M.new_slot t) (slots_of xs)
+placed xs i t y e q =
+    map-set slot_of xs i y
+    ∙ (ap (set (slots_of xs) i) q ∙ sym ((vacant xs i e).places (M.new_slot t)))
+
+pub all_held : (xs : List Slot) → None ≡ position_from (λ x. M.is_free (slot_of x)) 0 xs
+    → M.full (slots_of xs) ≡ true
+all_held xs e =
+    nowhere M.is_free (λ ys. M.full ys ≡ true) refl (λ x ys q k. rw q k) (slots_of xs)
+    (e ∙ sym (position_of M.is_free slot_of 0 xs))
+
+pub unplaced : (xs : List Slot) (y : M.Slot)
+    → None ≡ position_from (λ x. M.is_free (slot_of x)) 0 xs → slots_of xs ≡ M.place y (slots_of xs)
+unplaced xs y e =
+    sym (nowhere M.is_free (λ ys. M.place y ys ≡ ys) refl
+    (λ x ys q k. rw q (ap (λ zs. x ∷ zs) k)) (slots_of xs)
+    (e ∙ sym (position_of M.is_free slot_of 0 xs)))
 
 -- a slot that a method has changed as g says
 pub one_changed : {X Y : Type 0} (f : X → Y) (g : Y → Y) (xs : List X) (i : ℕ) (x x' : X) (d : Y)
@@ -118,3 +110,37 @@ one_changed f g xs i x x' d y =
     set_past (map f xs) i (f x') l
     ∙ sym (set_past (map f xs) i (g (get_or (map f xs) i d)) l))
     (cases_lt i (length xs))
+
+pub noted_at : (t g i : ℕ) (xs : List Slot) (x y : Slot)
+    → Some i ≡ position_from (λ x. M.holds t (slot_of x)) 0 xs → x ≡ get_or xs i x
+    → slot_of y ≡ noted g (slot_of x)
+    → slots_of (set xs i y) ≡ M.adjust t (noted g) (slots_of xs)
+noted_at t g i xs x y e q n =
+    let s = stands t xs i e in
+    one_changed slot_of (noted g) xs i x y M.free_slot (n ∙ ap (λ z. noted g (slot_of z)) q)
+    ∙ sym (s.changes (noted g))
+
+pub fits_at : (t g i : ℕ) (xs : List Slot) (x : Slot) (b : Bool)
+    → Some i ≡ position_from (λ x. M.holds t (slot_of x)) 0 xs → i < length xs
+    → x ≡ get_or xs i x → b ≡ M.note_fits g (slot_of x).notes
+    → b ≡ M.note_fits g (slot_with (slots_of xs) t).notes
+fits_at t g i xs x b e h q n =
+    let s = stands t xs i e in
+    let k : slot_of x ≡ get_or (slots_of xs) i M.free_slot
+    = ap slot_of q ∙ sym (get_or-map slot_of xs i x M.free_slot h) in
+    n ∙ rw (s.held, ← k) refl
+
+pub fits_nowhere : (t g : ℕ) (xs : List Slot)
+    → None ≡ position_from (λ x. M.holds t (slot_of x)) 0 xs
+    → true ≡ M.note_fits g (slot_with (slots_of xs) t).notes
+fits_nowhere t g xs e = rw (not_held t xs e) refl
+
+pub noted_nowhere : (t g : ℕ) (xs : List Slot)
+    → None ≡ position_from (λ x. M.holds t (slot_of x)) 0 xs
+    → slots_of xs ≡ M.adjust t (noted g) (slots_of xs)
+noted_nowhere t g xs e = sym (adjust_none t (noted g) (slots_of xs) (not_held t xs e))
+
+-- what `take_free` and `note` cite
+pub ruleset taking = (placed, unplaced, vacant_at, all_held)
+
+pub ruleset noting = (noted_at, noted_nowhere, fits_at, fits_nowhere)

@@ -8,7 +8,9 @@ mod plan;
 mod search;
 mod slot;
 
-pub use ops::Change;
-pub use plan::{apply, plan as plan_of, release, step as step_of};
-pub use search::{find, free_place, older_live, other_section, other_writers};
+pub use plan::{apply, plan as plan_of, release};
+pub use search::{
+    enter_section, find, free_place, held, note, older_live, other_section, other_writers, record,
+    take_free, wait,
+};
 pub use slot::Slot;

@@ -1,27 +1,14 @@
 // What one slot tells, and what may be done to it.
-ghost use Rattle.std.specs.Prelude.{◌≡◌};
+ghost use Rattle.std.specs.Prelude.{◌≡◌, [], slice_get};
+ghost use Rattle.std.specs.Result.{is_ok};
 ghost use Rattle.bounded.specs.Listed.{listed};
 ghost use Rattle.model.specs.Slots as M;
-ghost use Rattle.model.specs.Plans.{nth_write};
 ghost use Rattle.slot.specs.Means.{slot_of};
-ghost use Rattle.slot.specs.Changes.{change_of, noted, recorded, recorded_in, place_of};
+ghost use Rattle.slot.specs.Changes.{noted, place_of, recorded, recorded_in};
 
 use crate::slot::Slot;
-use bounded::Bounded;
+use bounded::{Bounded, Full};
 use model::{Content, Mark, Phase, Write};
-
-// What may be done to the slot of a transaction.
-#[derive(Clone, Copy)]
-pub enum Change {
-    Release,
-    Wait,
-    EnterSection,
-    CountPut,
-    StartChecking,
-    Pass,
-    Restart,
-    Commit,
-}
 
 impl Slot {
     pub fn free() -> Slot
@@ -51,63 +38,50 @@ impl Slot {
         self.phase = Phase::Running;
     }
 
-    fn release(&mut self)
+    pub fn release(&mut self)
         ensures { slot_of self.new ≡ M.free_slot }
     {
         self.stamp = 0;
         self.attempt = 0;
         self.phase = Phase::Free;
-        self.notes.clear();
-        self.writes.clear();
+        self.forget();
         self.puts = 0;
         self.mark = Mark::Unmarked;
     }
 
-    pub(crate) fn is_free(&self) -> bool
-        ensures { result ≡ M.is_free (slot_of self.now) }
+    // Empties notes and writes.
+    fn forget(&mut self)
+        ensures { slot_of self.new ≡ M.with_notes [] (M.with_writes [] (slot_of self.old)) }
     {
-        match self.phase {
-            Phase::Free => true,
-            _ => false,
-        }
-    }
-
-    // Whether the slot is held by the transaction with this stamp.
-    pub(crate) fn holds(&self, stamp: u64) -> bool
-        ensures { result ≡ M.holds stamp (slot_of self.now) }
-    {
-        !self.is_free() && self.stamp == stamp
+        self.notes.clear();
+        self.writes.clear();
     }
 
     // What the transaction has written to a granule.
     pub fn own(&self, granule: usize) -> Option<Content>
         ensures { result ≡ M.own granule (slot_of self.now).writes }
     {
-        own_write(self.writes.as_slice(), granule)
+        let writes = self.writes.as_slice();
+        writes
+            .iter()
+            .find(|write| write.granule == granule)
+            .map(|write| write.content)
     }
 
     // The write that is to be appended next.
     pub(crate) fn next_write(&self) -> Option<Write>
-        ensures { result
-            ≡ nth_write (slot_of self.now).puts (slot_of self.now).writes }
+        ensures { result ≡ slice_get (slot_of self.now).writes (slot_of self.now).puts }
     {
-        let writes = self.writes.as_slice();
-        if self.puts < writes.len() {
-            Some(writes[self.puts])
-        } else {
-            None
-        }
+        self.writes.as_slice().get(self.puts).copied()
     }
 
-    // Notes a granule, once; false where there is no room for a note, which changes nothing.
-    pub fn note(&mut self, granule: usize) -> bool
-        ensures took { result
-            ≡ M.note_fits granule (slot_of self.old).notes }
-        ensures after { slot_of self.new
-            ≡ noted granule (slot_of self.old) }
+    // Notes a granule, once. Where there is no room for a note nothing changes.
+    pub fn note(&mut self, granule: usize) -> Result<(), Full>
+        ensures took { is_ok result ≡ M.note_fits granule (slot_of self.old).notes }
+        ensures after { slot_of self.new ≡ noted granule (slot_of self.old) }
     {
-        if contains(self.notes.as_slice(), granule) {
-            return true;
+        if self.notes.as_slice().contains(&granule) {
+            return Ok(());
         }
         self.notes.push(granule)
     }
@@ -115,56 +89,67 @@ impl Slot {
     // Records a write, in place of an earlier one of the granule; where there is no room for one
     // more it changes nothing.
     pub fn record(&mut self, granule: usize, content: Content)
-        ensures { slot_of self.new
-            ≡ recorded granule content (slot_of self.old) }
+        ensures { slot_of self.new ≡ recorded granule content (slot_of self.old) }
     {
-        record_in(&mut self.writes, granule, content);
+        record_in(&mut self.writes, Write { granule, content });
     }
 
-    // Back to phase 1 with its stamp and the next attempt.
-    fn restart(&mut self)
-        ensures { slot_of self.new ≡ M.restarted (slot_of self.old) }
+    // The transaction commits, but has to wait for an older one.
+    pub fn wait(&mut self)
+        ensures { slot_of self.new ≡ M.in_phase 2 (slot_of self.old) }
     {
-        if self.attempt < u64::MAX {
-            self.attempt += 1;
+        self.phase = Phase::Waiting;
+    }
+
+    pub fn enter_section(&mut self)
+        ensures { slot_of self.new ≡ M.in_section (slot_of self.old) }
+    {
+        self.phase = Phase::Section;
+        self.puts = 0;
+    }
+
+    // One more of the writes has been appended.
+    pub fn count_put(&mut self)
+        ensures { slot_of self.new ≡ M.one_put (slot_of self.old) }
+    {
+        if self.puts < self.writes.len() {
+            self.puts += 1;
         }
-        self.phase = Phase::Running;
-        self.notes.clear();
-        self.writes.clear();
+    }
+
+    pub fn start_checking(&mut self)
+        ensures { slot_of self.new ≡ M.in_phase 4 (slot_of self.old) }
+    {
+        self.phase = Phase::Checking;
+    }
+
+    // The check lets the transaction go on.
+    pub fn pass(&mut self)
+        ensures { slot_of self.new ≡ M.with_mark Mark.Checked (slot_of self.old) }
+    {
         self.mark = Mark::Checked;
     }
 
-    pub fn change(&mut self, change: Change)
-        ensures { slot_of self.new
-            ≡ change_of change (slot_of self.old) }
+    // Back to phase 1 with its stamp and the next attempt.
+    pub fn restart(&mut self)
+        ensures { slot_of self.new ≡ M.restarted (slot_of self.old) }
     {
-        match change {
-            Change::Release => self.release(),
-            Change::Wait => self.phase = Phase::Waiting,
-            Change::EnterSection => {
-                self.phase = Phase::Section;
-                self.puts = 0;
-            }
-            Change::CountPut => {
-                if self.puts < self.writes.len() {
-                    self.puts += 1;
-                }
-            }
-            Change::StartChecking => self.phase = Phase::Checking,
-            Change::Pass => self.mark = Mark::Checked,
-            Change::Restart => self.restart(),
-            Change::Commit => {
-                self.phase = Phase::Committed;
-                self.notes.clear();
-                self.writes.clear();
-            }
-        }
+        self.attempt = self.attempt.saturating_add(1);
+        self.phase = Phase::Running;
+        self.forget();
+        self.pass();
+    }
+
+    pub fn commit(&mut self)
+        ensures { slot_of self.new ≡ M.committed (slot_of self.old) }
+    {
+        self.phase = Phase::Committed;
+        self.forget();
     }
 
     // Marks the notes of a live transaction younger than the one with this stamp.
     pub(crate) fn mark_younger(&mut self, stamp: u64)
-        ensures { slot_of self.new
-            ≡ M.mark_younger stamp (slot_of self.old) }
+        ensures { slot_of self.new ≡ M.mark_younger stamp (slot_of self.old) }
     {
         if stamp < self.stamp && self.phase.is_live() {
             self.mark = Mark::Marked(self.notes.len());
@@ -172,44 +157,18 @@ impl Slot {
     }
 
     pub(crate) fn unmark(&mut self)
-        ensures { slot_of self.new
-            ≡ M.with_mark Mark.Unmarked (slot_of self.old) }
+        ensures { slot_of self.new ≡ M.with_mark Mark.Unmarked (slot_of self.old) }
     {
         self.mark = Mark::Unmarked;
     }
 }
 
-// Whether a granule is among the notes.
-fn contains(notes: &[usize], granule: usize) -> bool
-    ensures { result ≡ M.mem granule notes.now }
-{
-    for note in notes {
-        if granule == *note {
-            return true;
-        }
-    }
-    false
-}
-
-// What has been written to a granule.
-fn own_write(writes: &[Write], granule: usize) -> Option<Content>
-    ensures { result ≡ M.own granule writes.now }
-{
-    for write in writes {
-        if granule == write.granule {
-            return Some(write.content);
-        }
-    }
-    None
-}
-
 // Sets the write of a granule where it fits.
-fn record_in(writes: &mut Bounded<Write, 16>, granule: usize, content: Content)
+fn record_in(writes: &mut Bounded<Write, 16>, write: Write)
     ensures { listed writes.new
-        ≡ recorded_in granule content (listed writes.old) }
+        ≡ recorded_in write.granule write.content (listed writes.old) }
 {
-    let write = Write { granule, content };
-    match place_of(writes.as_slice(), granule) {
+    match place_of(writes.as_slice(), write.granule) {
         Some(i) => writes.set(i, write),
         None => {
             let _ = writes.push(write);
@@ -221,10 +180,5 @@ fn record_in(writes: &mut Bounded<Write, 16>, granule: usize, content: Content)
 fn place_of(writes: &[Write], granule: usize) -> Option<usize>
     ensures { result ≡ place_of granule writes.now }
 {
-    for (i, write) in writes.iter().enumerate() {
-        if granule == write.granule {
-            return Some(i);
-        }
-    }
-    None
+    writes.iter().position(|write| write.granule == granule)
 }

@@ -1,14 +1,13 @@
 // What the next advance does, and the slots after it.
 ghost use Rattle.std.specs.Prelude.{◌≡◌};
 ghost use Rattle.model.specs.Slots as M;
-ghost use Rattle.model.specs.Plans.{plan_of, plan_check, after_plan, step_of};
+ghost use Rattle.model.specs.Plans.{plan_of, plan_check, after_plan};
 ghost use Rattle.slot.specs.Means.{slot_of, slots_of};
 
 use crate::conflict::first_conflict;
-use crate::ops::Change;
-use crate::search::{Which, change, oldest};
+use crate::search::{change, change_each, enter_section, oldest};
 use crate::slot::Slot;
-use model::{Mark, Phase, Plan, Step};
+use model::{Mark, Phase, Plan};
 
 impl Slot {
     // The first granule written here that the junior noted before its mark.
@@ -31,7 +30,7 @@ fn plan_check(slots: &[Slot], validator: &Slot) -> Plan
     ensures { result ≡ plan_check (slot_of validator.now)
         (M.oldest M.due (slots_of slots.now)) }
 {
-    match oldest(slots, Which::Due) {
+    match oldest(slots, Slot::is_due) {
         None => Plan::Done {
             stamp: validator.stamp,
         },
@@ -50,7 +49,7 @@ fn plan_check(slots: &[Slot], validator: &Slot) -> Plan
 pub fn plan(slots: &[Slot]) -> Plan
     ensures { result ≡ plan_of (slots_of slots.now) }
 {
-    match oldest(slots, Which::Validating) {
+    match oldest(slots, Slot::is_validating) {
         None => Plan::Idle,
         Some(slot) => match slot.phase {
             Phase::Section => match slot.next_write() {
@@ -65,53 +64,16 @@ pub fn plan(slots: &[Slot]) -> Plan
     }
 }
 
-// The answer of the advance.
-pub fn step(plan: Plan) -> Step
-    ensures { result ≡ step_of plan }
-{
-    match plan {
-        Plan::Idle => Step::Idle,
-        Plan::Put { write, .. } => Step::Put {
-            granule: write.granule,
-        },
-        Plan::Mark { .. } => Step::Mark,
-        Plan::Again { stamp, granule } => Step::Again { stamp, granule },
-        Plan::Pass { stamp } => Step::Pass { stamp },
-        Plan::Done { stamp } => Step::Done { stamp },
-    }
-}
-
-// Marks the notes of all live transactions younger than the one with this stamp.
-fn mark_all(slots: &mut [Slot], stamp: u64)
-    ensures { slots_of slots.new
-        ≡ M.each (M.mark_younger stamp) (slots_of slots.old) }
-{
-    for slot in slots.iter_mut() {
-        slot.mark_younger(stamp);
-    }
-}
-
-fn unmark_all(slots: &mut [Slot])
-    ensures { slots_of slots.new
-        ≡ M.each (M.with_mark Mark.Unmarked) (slots_of slots.old) }
-{
-    for slot in slots.iter_mut() {
-        slot.unmark();
-    }
-}
-
 // If the oldest live transaction waits, it enters its section.
 pub(crate) fn wake(slots: &mut [Slot])
     ensures { slots_of slots.new ≡ M.woken (slots_of slots.old) }
 {
-    let stamp = match oldest(slots, Which::Live) {
-        None => return,
-        Some(slot) => match slot.phase {
-            Phase::Waiting => slot.stamp,
-            _ => return,
-        },
-    };
-    change(slots, stamp, Change::EnterSection);
+    if let Some(slot) = oldest(slots, Slot::is_live)
+        && slot.phase == Phase::Waiting
+    {
+        let stamp = slot.stamp;
+        enter_section(slots, stamp);
+    }
 }
 
 // Frees the slot of the transaction with this stamp, then wakes.
@@ -119,7 +81,7 @@ pub fn release(slots: &mut [Slot], stamp: u64)
     ensures { slots_of slots.new
         ≡ M.woken (M.adjust stamp (λ x. M.free_slot) (slots_of slots.old)) }
 {
-    change(slots, stamp, Change::Release);
+    change(slots, stamp, Slot::release);
     wake(slots);
 }
 
@@ -130,16 +92,16 @@ pub fn apply(slots: &mut [Slot], plan: Plan)
 {
     match plan {
         Plan::Idle => {}
-        Plan::Put { stamp, .. } => change(slots, stamp, Change::CountPut),
+        Plan::Put { stamp, .. } => change(slots, stamp, Slot::count_put),
         Plan::Mark { stamp } => {
-            mark_all(slots, stamp);
-            change(slots, stamp, Change::StartChecking);
+            change_each(slots, |slot| slot.mark_younger(stamp));
+            change(slots, stamp, Slot::start_checking);
         }
-        Plan::Again { stamp, .. } => change(slots, stamp, Change::Restart),
-        Plan::Pass { stamp } => change(slots, stamp, Change::Pass),
+        Plan::Again { stamp, .. } => change(slots, stamp, Slot::restart),
+        Plan::Pass { stamp } => change(slots, stamp, Slot::pass),
         Plan::Done { stamp } => {
-            unmark_all(slots);
-            change(slots, stamp, Change::Commit);
+            change_each(slots, Slot::unmark);
+            change(slots, stamp, Slot::commit);
             wake(slots);
         }
     }

@@ -1,41 +1,60 @@
-// Questions about a slice of slots, and the change of one of them.
-ghost use Rattle.std.specs.Prelude.{◌≡◌, ◌<◌, length, IfSome, Some};
+// Questions about a slice of slots, and the change of one of them or of each. Functions over a
+// slice, since the slots are an array of plain records in the certifier. Most ask about a
+// transaction, by its stamp, and a granule: a pair of these would be made for the call alone.
+ghost use Rattle.std.specs.Prelude.{◌≡◌, ◌<◌, find, length, IfSome, OnErr, Some};
+ghost use Rattle.std.specs.List.{position_from};
 ghost use Rattle.std.specs.Option.{option_map};
+ghost use Rattle.std.specs.Fn.{FnOnceReturnsAtMut, FnReturnsAt};
+ghost use Rattle.std.specs.Result.{is_ok, is_err};
 ghost use Rattle.model.specs.Slots as M;
+ghost use Rattle.model.specs.Worlds.{slot_with};
 ghost use Rattle.slot.specs.Means.{slot_of, slots_of};
-ghost use Rattle.slot.specs.Changes.{change_of, first_from};
-ghost use Rattle.slot.specs.Tests.{passes, join, writes_beside};
+ghost use Rattle.slot.specs.Changes.{Changed, ChangedEach, FnReturnsAtMut, noted, recorded};
+ghost use Rattle.slot.specs.Tests.{join, writes_beside, IsOldest};
 
-use crate::ops::Change;
 use crate::slot::Slot;
-use model::{Mark, Phase};
-
-// Whom to look for.
-#[derive(Clone, Copy)]
-pub(crate) enum Which {
-    Free,
-    // held by the transaction with this stamp
-    Holds { stamp: u64 },
-    Live,
-    OlderLive { stamp: u64 },
-    // in its section or checking
-    Validating,
-    // marked and still to be checked
-    Due,
-    // another's open section that writes the granule
-    OtherSection { stamp: u64, granule: usize },
-    // another running or waiting transaction that writes the granule
-    OtherWriter { stamp: u64, granule: usize },
-}
+use bounded::Full;
+use model::{Content, Mark, Phase};
 
 impl Slot {
-    fn is_due(&self) -> bool
+    pub(crate) fn is_free(&self) -> bool
+        ensures { result ≡ M.is_free (slot_of self.now) }
+    {
+        self.phase == Phase::Free
+    }
+
+    // Whether the slot is held by the transaction with this stamp.
+    pub(crate) fn holds(&self, stamp: u64) -> bool
+        ensures { result ≡ M.holds stamp (slot_of self.now) }
+    {
+        !self.is_free() && self.stamp == stamp
+    }
+
+    pub(crate) fn is_live(&self) -> bool
+        ensures { result ≡ M.is_live (slot_of self.now) }
+    {
+        self.phase.is_live()
+    }
+
+    // Whether a live transaction is older than the one with this stamp.
+    fn is_older_live(&self, stamp: u64) -> bool
+        ensures { result ≡ M.older_live stamp (slot_of self.now) }
+    {
+        self.phase.is_live() && self.stamp < stamp
+    }
+
+    // In its section or checking.
+    pub(crate) fn is_validating(&self) -> bool
+        ensures { result ≡ M.validating (slot_of self.now) }
+    {
+        matches!(self.phase, Phase::Section | Phase::Checking)
+    }
+
+    // Marked and still to be checked.
+    pub(crate) fn is_due(&self) -> bool
         ensures { result ≡ M.due (slot_of self.now) }
     {
-        match self.mark {
-            Mark::Marked(_) => self.phase.is_live(),
-            _ => false,
-        }
+        self.phase.is_live() && matches!(self.mark, Mark::Marked(_))
     }
 
     // Whether another transaction than the one with this stamp writes the granule here.
@@ -45,55 +64,19 @@ impl Slot {
         self.stamp != stamp && self.own(granule).is_some()
     }
 
-    pub(crate) fn passes(&self, which: Which) -> bool
-        ensures { result ≡ passes which (slot_of self.now) }
+    // Whether it is another's open section that writes the granule.
+    fn is_other_section(&self, stamp: u64, granule: usize) -> bool
+        ensures { result ≡ M.other_section stamp granule (slot_of self.now) }
     {
-        match which {
-            Which::Free => self.is_free(),
-            Which::Holds { stamp } => self.holds(stamp),
-            Which::Live => self.phase.is_live(),
-            Which::OlderLive { stamp } => self.phase.is_live() && self.stamp < stamp,
-            Which::Validating => match self.phase {
-                Phase::Section | Phase::Checking => true,
-                _ => false,
-            },
-            Which::Due => self.is_due(),
-            Which::OtherSection { stamp, granule } => match self.phase {
-                Phase::Section => self.writes_beside(stamp, granule),
-                _ => false,
-            },
-            Which::OtherWriter { stamp, granule } => match self.phase {
-                Phase::Running | Phase::Waiting => self.writes_beside(stamp, granule),
-                _ => false,
-            },
-        }
+        self.phase == Phase::Section && self.writes_beside(stamp, granule)
     }
-}
 
-// The place of the first of them.
-fn place(slots: &[Slot], which: Which) -> Option<usize>
-    ensures within { IfSome result (λ i. i < length slots.now) }
-    ensures first { result ≡ first_from (passes which) 0 (slots_of slots.now) }
-{
-    for (i, slot) in slots.iter().enumerate() {
-        if slot.passes(which) {
-            return Some(i);
-        }
+    // Whether it is another running or waiting transaction that writes the granule.
+    fn is_other_writer(&self, stamp: u64, granule: usize) -> bool
+        ensures { result ≡ M.other_writer stamp granule (slot_of self.now) }
+    {
+        self.phase.is_running_or_waiting() && self.writes_beside(stamp, granule)
     }
-    None
-}
-
-// How many there are.
-fn count(slots: &[Slot], which: Which) -> usize
-    ensures { result ≡ M.tally (passes which) (slots_of slots.now) }
-{
-    let mut n = 0;
-    for slot in slots {
-        if slot.passes(which) {
-            n += 1;
-        }
-    }
-    n
 }
 
 // The elder of two, the first where they are of one age.
@@ -102,25 +85,20 @@ fn elder<'a>(best: Option<&'a Slot>, slot: &'a Slot) -> Option<&'a Slot>
         ≡ join (option_map (λ x. slot_of x.now) best.entry) (Some (slot_of slot.now)) }
 {
     match best {
-        Some(first) => {
-            if first.stamp <= slot.stamp {
-                Some(first)
-            } else {
-                Some(slot)
-            }
-        }
-        None => Some(slot),
+        Some(first) if first.stamp <= slot.stamp => best,
+        _ => Some(slot),
     }
 }
 
-// The oldest of them.
-pub(crate) fn oldest(slots: &[Slot], which: Which) -> Option<&Slot>
-    ensures { option_map (λ x. slot_of x.now) result
-        ≡ M.oldest (passes which) (slots_of slots.now) }
+// The oldest of those that pass a test.
+pub(crate) fn oldest<F: Fn(&Slot) -> bool>(slots: &[Slot], test: F) -> Option<&Slot>
+    requires { F.IsAlwaysCallable test }
+    ensures { IsOldest (FnReturnsAt F.Fn test)
+        slots.now (option_map (λ x. slot_of x.now) result) }
 {
     let mut best: Option<&Slot> = None;
     for slot in slots {
-        if slot.passes(which) {
+        if test(slot) {
             best = elder(best, slot);
         }
     }
@@ -130,31 +108,46 @@ pub(crate) fn oldest(slots: &[Slot], which: Which) -> Option<&Slot>
 // The place of the slot that has this stamp.
 pub fn find(slots: &[Slot], stamp: u64) -> Option<usize>
     ensures within { IfSome result (λ i. i < length slots.now) }
-    ensures first { result ≡ first_from (M.holds stamp) 0 (slots_of slots.now) }
+    ensures first { result ≡ position_from (λ x. M.holds stamp (slot_of x)) 0 slots.now }
 {
-    place(slots, Which::Holds { stamp })
+    slots.iter().position(|slot| slot.holds(stamp))
 }
 
 // The place of the first free slot.
 pub fn free_place(slots: &[Slot]) -> Option<usize>
     ensures within { IfSome result (λ i. i < length slots.now) }
-    ensures first { result ≡ first_from M.is_free 0 (slots_of slots.now) }
+    ensures first { result ≡ position_from (λ x. M.is_free (slot_of x)) 0 slots.now }
 {
-    place(slots, Which::Free)
+    slots.iter().position(|slot| slot.is_free())
+}
+
+// The slot that has this stamp.
+pub fn held(slots: &[Slot], stamp: u64) -> Option<&Slot>
+    ensures { option_map (λ x. x.now) result ≡ find (λ x. M.holds stamp (slot_of x)) slots.now }
+{
+    slots.iter().find(|slot| slot.holds(stamp))
 }
 
 // How many live transactions are older than the one with this stamp.
+#[tactic(auto, using(crate::proofs::Chains::tally_of))]
 pub fn older_live(slots: &[Slot], stamp: u64) -> usize
     ensures { result ≡ M.tally (M.older_live stamp) (slots_of slots.now) }
 {
-    count(slots, Which::OlderLive { stamp })
+    slots
+        .iter()
+        .filter(|slot| slot.is_older_live(stamp))
+        .count()
 }
 
 // How many other running or waiting transactions write the granule.
+#[tactic(auto, using(crate::proofs::Chains::tally_of))]
 pub fn other_writers(slots: &[Slot], stamp: u64, granule: usize) -> usize
     ensures { result ≡ M.tally (M.other_writer stamp granule) (slots_of slots.now) }
 {
-    count(slots, Which::OtherWriter { stamp, granule })
+    slots
+        .iter()
+        .filter(|slot| slot.is_other_writer(stamp, granule))
+        .count()
 }
 
 // The stamp of another's open section that writes the granule.
@@ -162,18 +155,71 @@ pub fn other_section(slots: &[Slot], stamp: u64, granule: usize) -> Option<u64>
     ensures { result ≡ option_map (λ x. x.stamp)
         (M.oldest (M.other_section stamp granule) (slots_of slots.now)) }
 {
-    match oldest(slots, Which::OtherSection { stamp, granule }) {
-        Some(other) => Some(other.stamp),
-        None => None,
+    let other = oldest(slots, |slot| slot.is_other_section(stamp, granule))?;
+    Some(other.stamp)
+}
+
+// Gives the first free slot to a new transaction. With no free slot nothing changes.
+#[tactic(auto, using(crate::proofs::Places::taking))]
+pub fn take_free(slots: &mut [Slot], stamp: u64) -> Result<(), Full>
+    ensures full { is_err result ≡ M.full (slots_of slots.old) }
+    ensures placed { slots_of slots.new ≡ M.place (M.new_slot stamp) (slots_of slots.old) }
+    ensures same { OnErr result (slots.new ≡ slots.old) }
+{
+    let i = free_place(slots).ok_or(Full)?;
+    slots[i].begin(stamp);
+    Ok(())
+}
+
+// Notes a granule in the slot that has this stamp. With no room for a note nothing changes.
+#[tactic(auto, using(crate::proofs::Places::noting))]
+pub fn note(slots: &mut [Slot], stamp: u64, granule: usize) -> Result<(), Full>
+    ensures took { is_ok result ≡ M.note_fits granule (slot_with (slots_of slots.old) stamp).notes }
+    ensures after { slots_of slots.new ≡ M.adjust stamp (noted granule) (slots_of slots.old) }
+{
+    match find(slots, stamp) {
+        Some(i) => slots[i].note(granule),
+        None => Ok(()),
     }
 }
 
-// Changes the slot that has this stamp, and no other.
-pub(crate) fn change(slots: &mut [Slot], stamp: u64, change: Change)
+// Records a write in the slot that has this stamp, where it fits.
+pub fn record(slots: &mut [Slot], stamp: u64, granule: usize, content: Content)
     ensures { slots_of slots.new
-        ≡ M.adjust stamp (change_of change) (slots_of slots.old) }
+        ≡ M.adjust stamp (recorded granule content) (slots_of slots.old) }
+{
+    change(slots, stamp, |slot| slot.record(granule, content));
+}
+
+pub fn enter_section(slots: &mut [Slot], stamp: u64)
+    ensures { slots_of slots.new ≡ M.adjust stamp M.in_section (slots_of slots.old) }
+{
+    change(slots, stamp, Slot::enter_section);
+}
+
+pub fn wait(slots: &mut [Slot], stamp: u64)
+    ensures { slots_of slots.new ≡ M.adjust stamp (M.in_phase 2) (slots_of slots.old) }
+{
+    change(slots, stamp, Slot::wait);
+}
+
+// Changes the slot that has this stamp, and no other.
+pub(crate) fn change<F: FnOnce(&mut Slot)>(slots: &mut [Slot], stamp: u64, change: F)
+    requires { F.IsAlwaysCallable change }
+    ensures { Changed stamp (λ x y. FnOnceReturnsAtMut F.FnOnce change x tt y)
+        slots.old slots.new }
 {
     if let Some(i) = find(slots, stamp) {
-        slots[i].change(change);
+        change(&mut slots[i]);
+    }
+}
+
+// Changes each slot.
+pub(crate) fn change_each<F: Fn(&mut Slot)>(slots: &mut [Slot], change: F)
+    requires { F.IsAlwaysCallable change }
+    ensures { ChangedEach (FnReturnsAtMut F.Fn change) slots.old slots.new }
+{
+    for slot in slots.iter_mut() {
+        change(slot);
     }
 }

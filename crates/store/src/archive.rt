@@ -1,12 +1,13 @@
 // The two interfaces.
 ghost use Rattle.std.specs.Prelude.{◌≡◌, ℕ, List, length, OnErr};
 ghost use Rattle.model.specs.declared.fault.Fault.{Fault};
-ghost use Rattle.model.specs.Archives.{Archived, Proper, Told, latest_of, version_with};
+ghost use Rattle.model.specs.Archives.{Archived, Proper, Told, latest_of};
 ghost use Rattle.model.specs.Stores.{stored, Appended, ReachOnly, Roomy};
 
-use model::{Content, Fault, Version};
+use model::{Fault, Version};
 
-// An archive answers questions about versions. Questions leave it as it is.
+// An archive answers questions about versions. Questions leave it as it is. A version is asked for
+// by its granule and its number in it.
 pub trait Archive {
     // the condition that making an archive gives, and that every call keeps
     ghost sound: { Self → Type 0 };
@@ -43,7 +44,8 @@ pub trait Archive {
         ensures { Told (means self.now) (origin self.now) granule k result };
 }
 
-// A version store is an archive that can also grow.
+// A version store is an archive that can also grow. That it is sound and stands on the same memory
+// is said of each call, and is no field: the stores below any other are of types not known here.
 pub trait Store: Archive {
     // the free places of each granule
     ghost room: { Self → ℕ → ℕ };
@@ -60,7 +62,7 @@ pub trait Store: Archive {
         ensures roomy { Roomy (Self.Archive.means self.now) granule result };
 
     // Puts a version behind those of a granule. A refusal leaves the store as it was.
-    fn append(&mut self, granule: usize, stamp: u64, content: Content) -> Result<(), Fault>
+    fn append(&mut self, granule: usize, version: Version) -> Result<(), Fault>
         requires { Self.Archive.sound self.old }
         ensures sound { Self.Archive.sound self.new }
         ensures lent { lent self.new ≡ lent self.old }
@@ -68,7 +70,7 @@ pub trait Store: Archive {
         ensures appended { Appended
             (stored (Self.Archive.means self.old) (room self.old))
             (stored (Self.Archive.means self.new) (room self.new))
-            (Self.Archive.origin self.old) granule (version_with stamp content) result };
+            (Self.Archive.origin self.old) granule version result };
 
     // Takes notice of something outside. Only reach may change.
     fn notice(&mut self, number: u64)

@@ -6,6 +6,7 @@ use model::{Cause, Fault, Version};
 
 // The newest version of a granule, or none where it has none. Of an empty granule it asks for
 // version 0, so that reach is tested there too.
+#[tactic(auto, using(crate::proofs::Asked::told_newest, crate::proofs::Asked::told_none))]
 pub fn newest<S: Archive>(archive: &S, granule: usize) -> Result<Option<Version>, Fault>
     requires { S.Archive.sound archive.now }
     ensures { ToldNewest
@@ -16,9 +17,7 @@ pub fn newest<S: Archive>(archive: &S, granule: usize) -> Result<Option<Version>
     let exists = granule < archive.granules();
     match archive.version(granule, k) {
         Ok(version) => Ok(Some(version)),
-        Err(fault) => match fault.cause {
-            Cause::Missing if exists => Ok(None),
-            _ => Err(fault),
-        },
+        Err(fault) if exists && fault.cause == Cause::Missing => Ok(None),
+        Err(fault) => Err(fault),
     }
 }

@@ -19,8 +19,6 @@ pub fn append_and_read<S: Store>(
         (stored (S.Archive.means store.old) (S.Store.room store.old))
         (S.Archive.origin store.old) granule version result }
 {
-    match store.append(granule, version.stamp, version.content) {
-        Ok(()) => newest(store, granule),
-        Err(fault) => Err(fault),
-    }
+    store.append(granule, version)?;
+    newest(store, granule)
 }

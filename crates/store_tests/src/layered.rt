@@ -4,11 +4,16 @@ use link::Link;
 use model::{Content, Version};
 use pair::Pair;
 use store::{Archive, Store};
-use table::Table;
+use table::{Shape, Table};
+
+// So many granules of depth 1.
+fn flat(granules: usize) -> Shape {
+    Shape { granules, depth: 1 }
+}
 
 // How many granules a pair of tables shows, of depth 1 and with so many granules each.
 fn shown(first: &mut [u64], n: usize, second: &mut [u64], m: usize) -> usize {
-    let pair = Pair::new(Table::new(first, n, 1), Table::new(second, m, 1));
+    let pair = Pair::new(Table::new(first, flat(n)), Table::new(second, flat(m)));
     pair.granules()
 }
 
@@ -29,8 +34,8 @@ fn too_many(rt: HostRuntime) {
 fn notices_reach_both_halves(rt: HostRuntime) {
     let mut first = [0; 2];
     let mut second = [0; 2];
-    let first = Link::new(Table::new(&mut first, 1, 1));
-    let second = Link::new(Table::new(&mut second, 1, 1));
+    let first = Link::new(Table::new(&mut first, flat(1)));
+    let second = Link::new(Table::new(&mut second, flat(1)));
     let mut pair = Pair::new(first, second);
     pair.notice(1);
     pair.notice(3);
@@ -44,7 +49,7 @@ fn notices_reach_both_halves(rt: HostRuntime) {
 #[test]
 fn radios(rt: HostRuntime) {
     let mut words = [0; 2];
-    let mut link = Link::new(Table::new(&mut words, 1, 1));
+    let mut link = Link::new(Table::new(&mut words, flat(1)));
     assert!(rt; link.within_reach(0));
     link.notice(1);
     assert!(rt; link.within_reach(0));
@@ -63,8 +68,8 @@ fn pile(rt: HostRuntime) {
         content: Content::Entry(9),
     };
     let (mut a, mut b, mut c) = ([0; 2], [0; 4], [0; 2]);
-    let inner = Pair::new(Table::new(&mut a, 1, 1), Table::new(&mut b, 2, 1));
-    let outer = Link::new(Table::new(&mut c, 1, 1));
+    let inner = Pair::new(Table::new(&mut a, flat(1)), Table::new(&mut b, flat(2)));
+    let outer = Link::new(Table::new(&mut c, flat(1)));
     let mut pile = Pair::new(Link::new(inner), outer);
     assert_eq!(rt; pile.granules(), 4);
     assert_eq!(rt; append_and_read(&mut pile, 2, version), Ok(Some(version)));

@@ -1,7 +1,12 @@
 // What a table leaves in the lent words, read back by a second table over them.
 use model::{Content, Version};
 use store::Archive;
-use table::{Table, append_lent};
+use table::{Shape, Table, append_lent};
+
+const SHAPE: Shape = Shape {
+    granules: 1,
+    depth: 2,
+};
 
 #[test]
 fn entry(rt: HostRuntime) {
@@ -10,9 +15,9 @@ fn entry(rt: HostRuntime) {
         content: Content::Entry(9),
     };
     let mut words = [5, 7, 0, 0];
-    assert_eq!(rt; append_lent(&mut words, 1, 2, 0, version), Ok(()));
+    assert_eq!(rt; append_lent(&mut words, SHAPE, 0, version), Ok(()));
     assert_eq!(rt; words, [5, 7, 6, 9]);
-    let table = Table::new(&mut words, 1, 2);
+    let table = Table::new(&mut words, SHAPE);
     assert_eq!(rt; table.version(0, 1), Ok(version));
 }
 
@@ -23,8 +28,8 @@ fn absence(rt: HostRuntime) {
         content: Content::Absence,
     };
     let mut words = [5, 7, 0, 0];
-    assert_eq!(rt; append_lent(&mut words, 1, 2, 0, version), Ok(()));
+    assert_eq!(rt; append_lent(&mut words, SHAPE, 0, version), Ok(()));
     assert_eq!(rt; words, [5, 7, 0x8000_0000_0000_0006, 0]);
-    let table = Table::new(&mut words, 1, 2);
+    let table = Table::new(&mut words, SHAPE);
     assert_eq!(rt; table.version(0, 1), Ok(version));
 }

@@ -1,25 +1,24 @@
 -- What a version put behind the others does to its granule, and to the table.
-use Rattle.std.proofs.Common.{◌≡◌, ℕ, zero, suc, ◌+◌, ◌-◌, ◌*◌, ◌%◌, ◌^◌, ◌<◌, ◌≤◌, Bool, true}
-use Rattle.std.proofs.Common.{false, cond, ltb, leb, List, [], ◌∷◌, ◌++◌, length, set, Some, None}
-use Rattle.std.proofs.Common.{Ok, Err, Option, Result, sym, refl, ap, ◌∙◌, inl, inr, ⊎_elim, arith}
+use Rattle.std.proofs.Common.{◌≡◌, ℕ, zero, suc, ◌+◌, ◌-◌, ◌*◌, ◌^◌, ◌<◌, ◌≤◌, Bool, true}
+use Rattle.std.proofs.Common.{false, List, [], ◌∷◌, ◌++◌, length, set, None}
+use Rattle.std.proofs.Common.{Ok, Err, Result, refl, ap, ◌∙◌, inl, inr, ⊎_elim, arith}
 use Rattle.std.proofs.Common.{length-set, get_or-set_other, get_or-set_same}
-use Rattle.std.proofs.lemmas.Bool.{eq-eqb, ne_eqb, lt-ltb, le-ltb, ltb-true, le-leb, lt-leb}
-use Rattle.std.proofs.lemmas.Bool.{cond-true, cond-false, cases_eq, cases_lt, both_ways}
+use Rattle.std.proofs.lemmas.Bool.Decides.{nat_tests}
+use Rattle.std.proofs.lemmas.Bool.{cases_eq}
 use Rattle.std.proofs.lemmas.List.{length_push}
 use Rattle.model.specs.declared.version.Content.{Content}
 use Rattle.model.specs.declared.version.Content.TheVariants.{Entry, Absence}
 use Rattle.model.specs.declared.version.Version.{Version}
 use Rattle.model.specs.declared.fault.Fault.{Fault}
-use Rattle.model.specs.declared.fault.Cause.{Cause}
-use Rattle.model.specs.Archives.{or_else, version_with, newest, stamp_or_0, top, Rising}
-use Rattle.model.specs.Stores.{stored, may_follow, place_fault, Grown, Appended}
+use Rattle.model.specs.Archives.{version_with, top, Rising}
+use Rattle.model.specs.Stores.{stored, place_fault, Grown, Appended, Arose}
 use Rattle.table.specs.Words.{stamp_of, version_of, first_word, second_word}
 use Rattle.table.specs.Words.{first_at, second_at, version_at, versions_in, wrong_pair}
 use Rattle.table.specs.Words.{put_at, put_behind, pairs_fault, table_archive, table_room}
 use Rattle.table.specs.Check.{SoundTable, table_fault, PutTable}
 use Rattle.table.specs.Rows.{RightPair, right_used, pair_cases, rises}
 use Rattle.table.specs.Rows.{versions_stop, versions_more}
-use Rattle.table.proofs.Pairs.{unused_next, right_next, row_fits, or_none}
+use Rattle.table.proofs.Pairs.{right_made, row_fits}
 
 -- pair j is the same in both
 abbrev SamePair : List ℕ → List ℕ → ℕ → Type 0
@@ -33,12 +32,8 @@ unused_after : (ws : List ℕ) (p m last : ℕ) → wrong_pair ws p m last true 
     → (j : ℕ) → p ≤ j → j < p + m → ZeroPair ws j
 unused_after ws p zero last h j a b = absurd (omega arith)
 unused_after ws p (suc m) last h j a b =
-    ⊎_elim
-    (λ x. ⊎_elim (λ (e : j ≡ p). rw e (x.0, x.1))
-    (λ ne. unused_after ws (p + 1) m last x.2 j (omega arith) (omega arith))
-    (cases_eq j p))
-    (λ y. absurd (both_ways _ y.0.before refl))
-    (pair_cases ws p m last true h)
+    let r = unused_after ws (p + 1) m last in
+    (grind (arith, nat_tests, r), grind (arith, nat_tests, r))
 
 all_unused : (ws : List ℕ) (p m last : ℕ) (met : Bool)
     → ((j : ℕ) → p ≤ j → j < p + m → ZeroPair ws j)
@@ -46,10 +41,9 @@ all_unused : (ws : List ℕ) (p m last : ℕ) (met : Bool)
 all_unused ws p zero last met h = (refl, refl)
 all_unused ws p (suc m) last met h =
     let here = h p (omega arith) (omega arith) in
-    let rest = all_unused ws (p + 1) m last true (λ j a b. h j (omega arith) (omega arith)) in (
-      unused_next ws p m last met here.0 here.1 rest.0,
-      versions_stop ws p (suc m) here.0,
-    )
+    let e = here.0 in let f = here.1 in
+    let r = all_unused ws (p + 1) m last true (λ j a b. h j (omega arith) (omega arith)) in
+    let a = r.0 in (grind (arith, nat_tests), grind (arith, nat_tests))
 
 -- words that have the same pairs from p to p + m mean the same there
 same_pairs : (ws us : List ℕ) (p m last : ℕ) (met : Bool)
@@ -66,19 +60,11 @@ same_pairs ws us p (suc m) last met h =
     let b = same_pairs ws us (p + 1) m (stamp_of (first_at ws p)) met there in
     (rw (e, f, a.0, b.0), rw (e, f, a.1))
 
-top_skip : (v u : Version) (o : Option Version)
-    → stamp_or_0 (or_else (or_else o (Some u)) (Some v)) ≡ stamp_or_0 (or_else o (Some u))
-top_skip v u None = refl
-top_skip v u (Some x) = refl
-
 -- where stamps rise the last is the greatest
 top_most : (v : Version) (vs : List Version) → Rising v.stamp vs
     → (v.stamp ≤ top (v ∷ vs)) × (top vs ≤ top (v ∷ vs))
 top_most v [] h = (omega arith, omega arith)
-top_most v (u ∷ us) h =
-    let e = top_skip v u (newest us) in
-    let r = top_most u us h.2 in
-    (omega (arith, e, r, h.0), omega (arith, e))
+top_most v (u ∷ us) h = let r = top_most u us h.2 in grind arith
 
 -- us is ws with the words w and c in pair q, the first unused one of m from pair p on
 record OneMore (ws us : List ℕ) (p m last q w c : ℕ) : Type 0 where
@@ -95,47 +81,36 @@ abbrev Grows : List ℕ → List ℕ → ℕ → ℕ → ℕ → ℕ → ℕ →
 Grows ws us p m last w c = (wrong_pair us p m last false ≡ None)
     × (versions_in us p m ≡ versions_in ws p m ++ (version_of w c ∷ []))
 
--- the pair stands first
-grows_here : (ws us : List ℕ) (p m last q w c : ℕ) → OneMore ws us p (suc m) last q w c
-    → first_at ws p ≡ 0 → wrong_pair ws (p + 1) m last true ≡ None
-    → Grows ws us p (suc m) last w c
-grows_here ws us p m last q w c o free past =
-    let none = versions_stop ws p (suc m) free in
-    let z = ap length none in
-    let here : q ≡ p = omega (arith, z) in
-    let e : first_at us p ≡ w = rw here at o.first in
-    let f : second_at us p ≡ c = rw here at o.second in
-    let zero_in = unused_after ws (p + 1) m last past in
-    let rest = all_unused us (p + 1) m (stamp_of w) false
-    (λ j a b.
-    let ne : j ≡ q → ⊥ = λ i. omega arith in
-    let s = o.others j ne in let y = zero_in j a b in (s.0 ∙ y.0, s.1 ∙ y.1)) in
-    let pair : RightPair last false (first_at us p) (second_at us p) =
-    rw (e, f) o.pair in
-    let used = right_used _ _ _ _ pair in
-    let more = versions_more us p (suc m) (p + 1) m used refl (omega arith) in (
-      right_next us p m last false pair (rw e rest.0),
-      more ∙ rw (e, f, rest.1, none) refl,
-    )
-
 grows : (ws us : List ℕ) (p m last q w c : ℕ) → OneMore ws us p m last q w c
     → Grows ws us p m last w c
 grows ws us p zero last q w c o = absurd (omega arith)
 grows ws us p (suc m) last q w c o =
     ⊎_elim
-    (λ x. grows_here ws us p m last q w c o x.0 x.2)
+    (λ x.
+    let none = versions_stop ws p (suc m) x.0 in
+    let here : q ≡ p = grind arith in
+    let e : first_at us p ≡ w = rw here at o.first in
+    let f : second_at us p ≡ c = rw here at o.second in
+    let free = unused_after ws (p + 1) m last x.2 in
+    let rest = all_unused us (p + 1) m (stamp_of w) false
+    (λ j a b. let s = o.others j (λ i. omega arith) in let y = free j a b in
+    (s.0 ∙ y.0, s.1 ∙ y.1)) in
+    let r = rest.0 in let v = rest.1 in
+    let a = right_made last false w c o.pair in
+    let i = a.0 in let u = a.1 in
+    let n = right_used last false w c o.pair in
+    (grind (arith, nat_tests), grind (arith, nat_tests)))
     (λ y.
     let used = right_used _ _ _ _ y.0 in
     let more = versions_more ws p (suc m) (p + 1) m used refl (omega arith) in
     let z = ap length more in
     let t = ap top more in
-    let ne : p ≡ q → ⊥ = λ e. omega (arith, z) in
-    let s = o.others p ne in
+    let s = o.others p (λ e. omega (arith, z)) in
     let s0 = s.0 in let s1 = s.1 in
     let st = stamp_of (first_at ws p) in
     let most = top_most (version_at ws p) (versions_in ws (p + 1) m)
     (rises ws (p + 1) m st y.1) in
-    let further : OneMore ws us (p + 1) m st q w c = record {
+    let rest = grows ws us (p + 1) m st q w c (record {
       right = y.1;
       place = omega (arith, z);
       within = omega arith;
@@ -149,14 +124,11 @@ grows ws us p (suc m) last q w c o =
         above = omega (arith, t, most);
       };
       above = omega (arith, t, most);
-    } in
-    let rest = grows ws us (p + 1) m st q w c further in
-    let pair : RightPair last false (first_at us p) (second_at us p) = rw (s0, s1) y.0 in
-    let used' = right_used _ _ _ _ pair in
-    let more' = versions_more us p (suc m) (p + 1) m used' refl (omega arith) in (
-      right_next us p m last false pair (rw s0 rest.0),
-      more' ∙ rw (s0, s1, rest.1, more) refl,
-    ))
+    }) in
+    let r = rest.0 in let v = rest.1 in
+    let a = right_made _ _ _ _ y.0 in
+    let i = a.0 in let u = a.1 in
+    (grind (arith, nat_tests), grind (arith, nat_tests)))
     (pair_cases ws p m last false o.right)
 
 -- a pair that is written
@@ -164,33 +136,14 @@ put_pair : (ws : List ℕ) (q w c : ℕ) → 2 * q + 1 < length ws
     → (first_at (set (set ws (2 * q) w) (2 * q + 1) c) q ≡ w)
     × (second_at (set (set ws (2 * q) w) (2 * q + 1) c) q ≡ c)
     × ((j : ℕ) → (j ≡ q → ⊥) → SamePair ws (set (set ws (2 * q) w) (2 * q + 1) c) j)
-put_pair ws q w c h =
-    let l = length-set ws (2 * q) w in
-    let n₁ : 2 * q ≡ 2 * q + 1 → ⊥ = λ e. omega arith in
-    let b₁ : 2 * q < length ws = omega arith in
-    let b₂ : 2 * q + 1 < length (set ws (2 * q) w) = omega arith in (
-      rw (get_or-set_other, get_or-set_same),
-      rw get_or-set_same,
-      λ j ne.
-          let m₁ : 2 * j ≡ 2 * q + 1 → ⊥ = λ e. omega arith in
-          let m₂ : 2 * j ≡ 2 * q → ⊥ = λ e. omega (arith, ne) in
-          let m₃ : 2 * j + 1 ≡ 2 * q + 1 → ⊥ = λ e. omega (arith, ne) in
-          let m₄ : 2 * j + 1 ≡ 2 * q → ⊥ = λ e. omega arith in
-          (rw (get_or-set_other, get_or-set_other), rw (get_or-set_other, get_or-set_other)),
-    )
+put_pair ws q w c h = grind (arith, length-set, get_or-set_other, get_or-set_same)
 
 -- a version that is written is read back
 pub word_back : (t : ℕ) (c : Content) → t < 2 ^ 62
     → (stamp_of (first_word t c) ≡ t)
     × (version_of (first_word t c) (second_word c) ≡ version_with t c)
-word_back t Absence h =
-    let a : stamp_of (first_word t Absence) ≡ t = omega arith in
-    let b : leb (2 ^ 63) (2 ^ 63 + t) ≡ true = le-leb _ _ (omega arith) in
-    (a, rw (a, b))
-word_back t (Entry c) h =
-    let a : t % 2 ^ 62 ≡ t = omega arith in
-    let b : leb (2 ^ 63) t ≡ false = lt-leb _ _ (omega arith) in
-    (a, rw (a, b))
+word_back t Absence h = (omega arith, grind (arith, nat_tests))
+word_back t (Entry c) h = (omega arith, grind (arith, nat_tests))
 
 pub right_word : (last t : ℕ) (c : Content) → t < 2 ^ 62 → last < t
     → RightPair last false (first_word t c) (second_word c)
@@ -246,11 +199,8 @@ module _ (ws us : List ℕ) (n d g : ℕ) (v : Version) (l : g < n)
   -- another granule keeps its pairs
   apart : (h : ℕ) → (h ≡ g → ⊥) → (j : ℕ) → h * d ≤ j → j < h * d + d → SamePair ws us j
   apart h ne j a b =
-      p.others j
-      (λ x y. ⊎_elim
-      (λ (k : h < g). omega (arith, row_fits h g d k))
-      (λ (k : g ≤ h). omega (arith, row_fits g h d (omega arith)))
-      (cases_lt h g))
+      let k = row_fits h g d in let m = row_fits g h d in
+      p.others j (λ x y. grind (arith, k, m))
 
   others_same : (h : ℕ) → (h ≡ g → ⊥)
       → (wrong_pair us (h * d) d 0 false ≡ wrong_pair ws (h * d) d 0 false)
@@ -269,74 +219,52 @@ module _ (ws us : List ℕ) (n d g : ℕ) (v : Version) (l : g < n)
 
   grown : Grown (stored (table_archive ws n d) (table_room ws n d))
       (stored (table_archive us n d) (table_room us n d)) g v
-  grown =
-      let t = lt-ltb g n l in let s = eq-eqb g g refl in
-      record {
-        count = refl;
-        history = λ h. ⊎_elim
-            (λ (i : h ≡ g). let m = p.more in rw (i, t, s) m)
-            (λ ne. let f = ne_eqb h g ne in let m = (others_same h ne).1 in rw (f, m) refl)
-            (cases_eq h g);
-        reach = λ h. refl;
-        room = λ h. ⊎_elim
-            (λ (i : h ≡ g).
-            let m = ap length p.more ∙ length_push _ _ in rw (i, t, s, m) (omega arith))
-            (λ ne. let f = ne_eqb h g ne in let m = (others_same h ne).1 in rw (f, m) refl)
-            (cases_eq h g);
-      }
-
-cond_none : (b : Bool) (x : Option Cause) (c : Cause) → cond b x (Some c) ≡ None
-    → (b ≡ true) × (x ≡ None)
-cond_none true x c h = (refl, h)
-cond_none false x c h = let z : ◌≡◌ {A = ℕ} 0 1 = cc in absurd (omega arith)
-
-follow_parts : (vs : List Version) (t : ℕ) → may_follow vs t ≡ true
-    → (top vs < t) × (t < 2 ^ 62)
-follow_parts vs t h =
-    ⊎_elim
-    (λ (l : top vs < t). (l, ltb-true _ _ (sym (cond-true _ _ _ (lt-ltb _ _ l)) ∙ h)))
-    (λ (l : t ≤ top vs). absurd (both_ways _ (cond-false _ _ _ (le-ltb _ _ l)) h))
-    (cases_lt (top vs) t)
+  grown = record {
+    count = refl;
+    history = λ h. ⊎_elim
+        (λ (i : h ≡ g). let m = p.more in rw i (grind (arith, nat_tests)))
+        (λ ne. let m = (others_same h ne).1 in grind (arith, nat_tests))
+        (cases_eq h g);
+    reach = λ h. refl;
+    room = λ h. ⊎_elim
+        (λ (i : h ≡ g).
+        let m = ap length p.more ∙ length_push _ _ in rw i (grind (arith, nat_tests)))
+        (λ ne. let m = (others_same h ne).1 in grind (arith, nat_tests))
+        (cases_eq h g);
+  }
 
 -- where nothing stands against it
 place_parts : (vs : List Version) (d t : ℕ) → place_fault vs (d - length vs) t ≡ None
     → (top vs < t) × (t < 2 ^ 62) × (length vs < d)
 place_parts vs d t h =
-    let a = cond_none (may_follow vs t) _ _ h in
-    let b = cond_none (ltb 0 (d - length vs)) _ _ a.1 in
-    let f = follow_parts vs t a.0 in
-    let r = ltb-true _ _ b.0 in
-    (f.0, f.1, omega arith)
+    (grind (arith, nat_tests), grind (arith, nat_tests), grind (arith, nat_tests))
 
--- a granule of the table refuses as its pairs do
-fault_in : (ws : List ℕ) (n d g t : ℕ) → g < n
-    → table_fault ws n d g t ≡ pairs_fault ws (g * d) d t
-fault_in ws n d g t h = let e = lt-ltb g n h in rw e refl
+-- where nothing stands against it in the table
+table_parts : (ws : List ℕ) (n d g t : ℕ) → table_fault ws n d g t ≡ None
+    → (g < n) × (pairs_fault ws (g * d) d t ≡ None)
+table_parts ws n d g t h =
+    let l : g < n = grind (arith, nat_tests) in (l, grind (arith, nat_tests))
 
 table_grown : (ws us : List ℕ) (n d g : ℕ) (v : Version) → SoundTable ws n d
     → table_fault ws n d g v.stamp ≡ None → us ≡ put_behind ws (g * d) d v
     → SoundTable us n d × Grown (stored (table_archive ws n d) (table_room ws n d))
     (stored (table_archive us n d) (table_room us n d)) g v
 table_grown ws us n d g v c h e =
-    let f = or_none _ _ h in
-    let l : g < n = ltb-true _ _ (cond_none (ltb g n) _ _ f.0).0 in
-    let a = place_parts (versions_in ws (g * d) d) d v.stamp
-    (sym (fault_in ws n d g v.stamp l) ∙ h) in
+    let f = table_parts ws n d g v.stamp h in
+    let l = f.0 in
+    let a = place_parts (versions_in ws (g * d) d) d v.stamp f.1 in
     let k = row_fits g n d l in
     let m = put_more ws (g * d) d v (c.right g l) a.2 (omega arith) a.1 a.0 in
     let long = length-set _ (2 * (g * d + length (versions_in ws (g * d) d)) + 1) _
     ∙ length-set ws (2 * (g * d + length (versions_in ws (g * d) d))) _ in
     rw e (stays_sound ws _ n d g v l m c long, grown ws _ n d g v l m)
 
-abbrev InTable : ℕ → Fault → Type 0
-InTable g f = (f.layer ≡ 1) × (f.granule ≡ g)
-
 -- what an append owes
 pub table_appended : (ws us : List ℕ) (n d m e g : ℕ) (v : Version) (r : Result (Unit {0}) Fault)
     → SoundTable ws n d → PutTable ws us n d g v r → m ≡ n → e ≡ d
     → SoundTable us m e
     × Appended (stored (table_archive ws n d) (table_room ws n d))
-    (stored (table_archive us m e) (table_room us m e)) InTable g v r
+    (stored (table_archive us m e) (table_room us m e)) (Arose 1) g v r
 table_appended ws us n d m e g v (Ok u) c p a b =
     let t = table_grown ws us n d g v c p.0 p.1 in rw (a, b) (t.0, (p.0, t.1))
 table_appended ws us n d m e g v (Err f) c p a b =

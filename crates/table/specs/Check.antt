@@ -4,7 +4,7 @@ use Rattle.std.specs.Prelude.{length, Some, None, Ok, Err, Option, Result, nat_l
 use Rattle.model.specs.declared.version.Version.{Version}
 use Rattle.model.specs.declared.fault.Fault.{Fault}
 use Rattle.model.specs.declared.fault.Cause.{Cause}
-use Rattle.model.specs.Archives.{or_else}
+use Rattle.std.specs.Option.{option_or}
 use Rattle.model.specs.Stores.{stored, append_fault}
 use Rattle.table.specs.declared.check.TableFault.{TableFault}
 use Rattle.table.specs.declared.check.TableFault.TheVariants.{Pair, Shape}
@@ -17,10 +17,11 @@ fault_number Shape = 26
 -- the first word of the first wrong pair of n granules of depth d
 abbrev pub wrong_below : List ℕ → ℕ → ℕ → Option ℕ
 wrong_below ws d zero = None
-wrong_below ws d (suc n) = or_else (wrong_below ws d n) (wrong_pair ws (n * d) d 0 false)
+wrong_below ws d (suc n) = option_or (wrong_below ws d n) (wrong_pair ws (n * d) d 0 false)
 
 abbrev pub in_shape : List ℕ → ℕ → ℕ → Bool
-in_shape ws n d = nat_le n 4096 && (nat_le 1 d && (nat_le d 64 && nat_le (2 * (n * d)) (length ws)))
+in_shape ws n d =
+    nat_le n 4096 && (nat_le 1 d && (nat_le d 64 && nat_le (2 * (n * d)) (length ws)))
 
 abbrev pub pair_verdict : Option ℕ → Result (Unit {0}) TableFault
 pair_verdict None = Ok tt

@@ -86,10 +86,10 @@ abbrev pub pairs_fault : List ℕ → ℕ → ℕ → ℕ → Option Cause
 pairs_fault ws p d t =
     place_fault (versions_in ws p d) (d - length (versions_in ws p d)) t
 
--- what putting v behind these versions answers, and which words us then stand for ws
-abbrev pub Put : List ℕ → List ℕ → ℕ → ℕ → Version → Result (Unit {0}) Cause → Type 0
-Put ws us p d v (Ok u) = (pairs_fault ws p d v.stamp ≡ None) × (us ≡ put_behind ws p d v)
-Put ws us p d v (Err c) = (pairs_fault ws p d v.stamp ≡ Some c) × (us ≡ ws)
+-- in which pair a version with stamp t comes to stand, behind those of these pairs
+abbrev pub Placed : List ℕ → ℕ → ℕ → ℕ → Result ℕ Cause → Type 0
+Placed ws p d t (Ok q) = (pairs_fault ws p d t ≡ None) × (q ≡ p + length (versions_in ws p d))
+Placed ws p d t (Err c) = pairs_fault ws p d t ≡ Some c
 
 -- what n granules of depth d in these words mean
 abbrev pub table_archive : List ℕ → ℕ → ℕ → Archived

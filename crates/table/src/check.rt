@@ -1,12 +1,20 @@
 // The check that comes before a table: first the shape, then each pair of words in order. It
 // carries the granule's last stamp and whether an unused pair was met, and stops at the first
 // pair that is wrong.
-ghost use Rattle.std.specs.Prelude.{◌≡◌, ℕ, ◌+◌, ◌*◌, ◌≤◌, false, length};
+ghost use Rattle.std.specs.Prelude.{◌≡◌, false};
 ghost use Rattle.table.specs.Words.{low_bits, is_unused, is_wrong, wrong_pair};
-ghost use Rattle.table.specs.Check.{table_verdict, fault_number};
+ghost use Rattle.table.specs.Check.{table_verdict, pair_verdict, fault_number};
 ghost use Rattle.table.specs.Law.{Lawful};
 
-use crate::words::{ABSENCE, STAMPS};
+use crate::words::{ABSENCE, Pairs};
+use model::{MOST_GRANULES, STAMP_LIMIT};
+
+// How words are divided: so many granules, with so many pairs of words each.
+#[derive(Clone, Copy, PartialEq, Eq, Debug)]
+pub struct Shape {
+    pub granules: usize,
+    pub depth: usize,
+}
 
 // Why words are refused as a table.
 #[derive(Clone, Copy, PartialEq, Eq, Debug)]
@@ -18,6 +26,7 @@ pub enum TableFault {
 }
 
 impl TableFault {
+    // By a match, since a case with data has no number that `as` could give.
     pub fn number(self) -> u8
         ensures { result ≡ fault_number self }
     {
@@ -27,6 +36,9 @@ impl TableFault {
         }
     }
 }
+
+// The two words of a pair are passed as they are read from the slice: a struct of the two would
+// only be taken apart again.
 
 // Whether a pair of words is unused.
 fn unused(first: u64, second: u64) -> bool
@@ -39,11 +51,7 @@ fn unused(first: u64, second: u64) -> bool
 fn low_bits(first: u64) -> u64
     ensures { result ≡ low_bits first }
 {
-    if first >= ABSENCE {
-        first - ABSENCE
-    } else {
-        first
-    }
+    first % ABSENCE
 }
 
 // Whether a used pair is wrong behind the stamp `last`, where `met` says that an unused pair came
@@ -51,44 +59,56 @@ fn low_bits(first: u64) -> u64
 fn wrong(last: u64, met: bool, first: u64, second: u64) -> bool
     ensures { result ≡ is_wrong last met first second }
 {
-    met || low_bits(first) >= STAMPS || (first >= ABSENCE && second > 0) || first % STAMPS <= last
+    met || low_bits(first) >= STAMP_LIMIT
+        || (first >= ABSENCE && second > 0)
+        || first % STAMP_LIMIT <= last
 }
 
-// The first word of the first wrong pair of a granule, whose pairs begin at `pair`.
-fn check_granule(words: &[u64], pair: usize, depth: usize) -> Option<usize>
-    requires { 2 * (pair + depth) ≤ length words.now }
-    ensures { result ≡ wrong_pair words.now pair depth 0 false }
-{
-    let mut last = 0;
-    let mut met = false;
-    for k in 0..depth {
-        let i = 2 * (pair + k);
-        let first = words[i];
-        let second = words[i + 1];
-        if unused(first, second) {
-            met = true;
-        } else {
-            if wrong(last, met, first, second) {
-                return Some(i);
+impl Pairs<'_> {
+    // Refuses the first wrong pair. A loop with an index, since it carries the previous stamp and
+    // whether an unused pair was met.
+    fn check(&self) -> Result<(), TableFault>
+        ensures { result ≡ pair_verdict
+            (wrong_pair self.now.words.now self.now.first self.now.depth 0 false) }
+    {
+        let mut last = 0;
+        let mut met = false;
+        for k in 0..self.depth {
+            let word = 2 * (self.first + k);
+            let first = self.words[word];
+            let second = self.words[word + 1];
+            if unused(first, second) {
+                met = true;
+            } else {
+                if wrong(last, met, first, second) {
+                    return Err(TableFault::Pair { word });
+                }
+                last = first % STAMP_LIMIT;
             }
-            last = first % STAMPS;
         }
+        Ok(())
     }
-    None
 }
 
-// Whether these words hold so many granules of this depth.
-pub fn check_words(words: &[u64], granules: usize, depth: usize) -> Result<(), TableFault>
-    ensures value { result ≡ table_verdict words.now granules depth }
-    ensures law { Lawful words.now granules depth result }
+// Whether these words hold a table of this shape.
+pub fn check_words(words: &[u64], shape: Shape) -> Result<(), TableFault>
+    ensures value { result ≡ table_verdict words.now shape.granules shape.depth }
+    ensures law { Lawful words.now shape.granules shape.depth result }
 {
-    if granules > 4096 || depth < 1 || depth > 64 || words.len() < 2 * (granules * depth) {
+    let Shape { granules, depth } = shape;
+    if granules > MOST_GRANULES
+        || !(1..=64).contains(&depth)
+        || words.len() < 2 * (granules * depth)
+    {
         return Err(TableFault::Shape);
     }
     for g in 0..granules {
-        if let Some(word) = check_granule(words, g * depth, depth) {
-            return Err(TableFault::Pair { word });
-        }
+        let pairs = Pairs {
+            words,
+            first: g * depth,
+            depth,
+        };
+        pairs.check()?;
     }
     Ok(())
 }

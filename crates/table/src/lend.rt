@@ -1,6 +1,7 @@
 // What lent words hold once the table is gone.
 ghost use Rattle.table.specs.Check.{PutLent};
 
+use crate::check::Shape;
 use crate::table::Table;
 use model::{Fault, Version};
 
@@ -8,14 +9,13 @@ use model::{Fault, Version};
 // have no granule, so that granule is missing.
 pub fn append_lent(
     words: &mut [u64],
-    granules: usize,
-    depth: usize,
+    shape: Shape,
     granule: usize,
     version: Version,
 ) -> Result<(), Fault>
     ensures { PutLent
-        words.old words.new granules depth granule version result }
+        words.old words.new shape.granules shape.depth granule version result }
 {
-    let mut table = Table::new(words, granules, depth);
+    let mut table = Table::new(words, shape);
     table.put(granule, version)
 }

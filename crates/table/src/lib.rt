@@ -6,6 +6,6 @@ pub mod lend;
 pub mod table;
 mod words;
 
-pub use check::{TableFault, check_words};
+pub use check::{Shape, TableFault, check_words};
 pub use lend::append_lent;
 pub use table::Table;

@@ -1,31 +1,26 @@
+use Rattle.std.proofs.lemmas.Result.{err_from_is_err_and}
 use Rattle.certifier.specs.Beside.{beside}
 use Rattle.replay.proofs.OfKind.{write_at}
 use Rattle.replay.proofs.events.write_code.Goals as goal
 
-pub returns-in-Ok : goal.returns-in-Ok
-returns-in-Ok g c =
+pub returns-in_err-write-clause-does : goal.returns-in_err-write-clause-does
+returns-in_err-write-clause-does g c =
     let s = c.args.store.now in
     let a = g.S.Archive.means s in
     let room = g.S.Store.room s in
-    let e = c.in-Ok.ensures in
-    record {
-      arising = tt;
-      does = write_at (beside c.args.certifier.now a room)
-          (beside c.write.new.self a room) c.args.stamp c.args.attempt
-          c.args.granule c.of-kind.result _ c.of-kind.ensures c.args.code
-          e.does;
-    }
+    let by = c.args.by in
+    let p = err_from_is_err_and c.from_residual.result c.from_residual.ensures.1 in
+    rw (p.1, p.2)
+    (write_at (beside c.args.certifier.now a room) (beside c.write.new.self a room)
+    by.stamp by.number c.args.granule c.of.result _ c.of.ensures c.args.code
+    c.in_err-write.ensures.does)
 
-pub returns-in-Err : goal.returns-in-Err
-returns-in-Err g c =
+pub returns-clause-does : goal.returns-clause-does
+returns-clause-does g c =
     let s = c.args.store.now in
     let a = g.S.Archive.means s in
     let room = g.S.Store.room s in
-    let e = c.in-Err.ensures in
-    record {
-      arising = e.arising;
-      does = write_at (beside c.args.certifier.now a room)
-          (beside c.write.new.self a room) c.args.stamp c.args.attempt
-          c.args.granule c.of-kind.result _ c.of-kind.ensures c.args.code
-          e.does;
-    }
+    let by = c.args.by in
+    write_at (beside c.args.certifier.now a room) (beside c.write.new.self a room)
+    by.stamp by.number c.args.granule c.of.result _ c.of.ensures c.args.code
+    c.in_ok-write.ensures.does

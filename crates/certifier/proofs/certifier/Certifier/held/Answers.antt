@@ -1,21 +1,12 @@
-use Rattle.std.proofs.Common.{rules}
-use Rattle.certifier.specs.Beside.{slots_in}
-use Rattle.certifier.proofs.Present.{absent, found}
+use Rattle.certifier.proofs.Present.{passes_held, holds_held}
 use Rattle.certifier.proofs.certifier.Certifier.held.Goals as goal
 
-pub returns-in-Some : goal.returns-in-Some
-returns-in-Some c =
-    record {
-      within = search rules;
-      arising = tt;
-      ruled = found (slots_in c.args.self.now) c.args.stamp c.in-Some.i
-          (search rules);
-    }
+pub returns-clause-passes : goal.returns-clause-passes
+returns-clause-passes c =
+    rw c.ok_or.ensures.value
+    (passes_held c.args.self.now.slots c.args.stamp c.held.result c.held.ensures)
 
-pub returns-in-None : goal.returns-in-None
-returns-in-None c =
-    record {
-      within = tt;
-      arising = tt;
-      ruled = absent (slots_in c.args.self.now) c.args.stamp (search rules);
-    }
+pub returns-clause-held : goal.returns-clause-held
+returns-clause-held c =
+    rw c.ok_or.ensures.value
+    (holds_held c.args.self.now.slots c.args.stamp c.held.result c.held.ensures)

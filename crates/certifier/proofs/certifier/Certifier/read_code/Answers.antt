@@ -1,88 +1,58 @@
-use Rattle.std.proofs.Common.{get_or, sym, refl, ap, ◌∙◌, rules}
-use Rattle.model.specs.Slots.{own}
+use Rattle.std.proofs.Common.{◌≡◌, true, false, None, sym, ap, ◌∙◌, rules}
+use Rattle.std.proofs.lemmas.Result.{err_from_is_err_and}
+use Rattle.model.specs.declared.answer.Refusal.TheVariants.{TooManyNotes}
+use Rattle.model.specs.Archives.{granule_fault, newest}
+use Rattle.model.specs.Slots as M
+use Rattle.model.specs.Worlds.{slot_with, with_slots}
 use Rattle.slot.specs.Means.{slot_of}
-use Rattle.slot.specs.Changes.{noted}
-use Rattle.certifier.specs.Beside.{beside, slot_at}
-use Rattle.certifier.proofs.Present.{read_slot}
-use Rattle.certifier.proofs.Reading.{own_read, not_reached, too_many, told, kept, set_world}
+use Rattle.certifier.specs.Beside.{beside}
+use Rattle.certifier.proofs.Reading.{own_read, too_many, told, kept}
 use Rattle.certifier.proofs.certifier.Certifier.read_code.Goals as goal
 
-pub returns-in-Some : goal.returns-in-Some
-returns-in-Some g c =
+pub returns-in-Some-clause-read : goal.returns-in-Some-clause-read
+returns-in-Some-clause-read g c =
     let s = c.args.store.now in
     let w = beside c.args.self.now (g.S.Archive.means s) (g.S.Store.room s) in
-    let ys = c.args.self.now.slots in
-    let i = c.in-Ok.i in
-    let y = c.index-self-i.result in
-    let q = read_slot ys i y (search rules) in
-    let r = c.in-Ok.ensures.ruled in
-    let e = own_read w c.args.stamp c.args.attempt c.args.granule i
-    (slot_of (get_or ys i y)) r.0 r.1 q c.in-Some.content c.in-Some.ensures in
-    record { arising = tt; read = (e.0, c.code_of.ensures ∙ e.1, e.2) }
+    let by = c.args.by in
+    let x = slot_of c.in_ok-on_granule.field-0.now in
+    let h = c.in_ok-on_granule.ensures in
+    let e = own_read w by.stamp by.number c.args.granule x h.passes h.held
+    c.in-Some.content c.in-Some.ensures in
+    (e.0, c.code.ensures ∙ e.1, e.2)
 
-pub returns-in-Err-newest : goal.returns-in-Err-newest
-returns-in-Err-newest g c =
+pub returns-in_err-map_err-clause-read : goal.returns-in_err-map_err-clause-read
+returns-in_err-map_err-clause-read g c =
     let s = c.args.store.now in
-    let a = g.S.Archive.means s in
-    let room = g.S.Store.room s in
-    let w = beside c.args.self.now a room in
-    let i = c.in-Ok.i in
-    let x = slot_at c.args.self.now i in
-    let q = read_slot c.args.self.now.slots i c.index-self-i.result (search rules) in
-    let o = c.in_default.ensures ∙ ap (λ z. own c.args.granule z.writes) q in
-    let r = c.in-Ok.ensures.ruled in
-    let e = c.in-Err-newest.ensures in
-    record {
-      arising = e.1;
-      read = (
-        not_reached w c.args.stamp c.args.attempt c.args.granule i x r.0 r.1
-            refl o c.in-Err-newest.fault.cause e.0,
-        refl,
-      );
-    }
+    let w = beside c.args.self.now (g.S.Archive.means s) (g.S.Store.room s) in
+    let by = c.args.by in
+    let x = slot_of c.in_ok-on_granule.field-0.now in
+    let h = c.in_ok-on_granule.ensures in
+    let r = c.from_residual-in_err-map_err in
+    let p = err_from_is_err_and r.result r.ensures.1 in
+    let named : c.in_err-map_err.field-0.0 ≡ TooManyNotes = search rules in
+    let n : M.note_fits c.args.granule (slot_with w.slots by.stamp).notes ≡ false
+    = search rules in
+    let unfit = rw h.held at n in
+    let f : granule_fault w.store.archive c.args.granule ≡ None = search rules in
+    let e = too_many w by.stamp by.number c.args.granule x h.passes h.held
+    c.in_default.ensures f unfit in
+    let k = kept w by.stamp by.number c.args.granule x h.passes h.held unfit in
+    rw (p.1, p.2, named) (e, ap (λ ys. with_slots ys w) c.note.ensures.after ∙ k)
 
-pub returns-then-not-note_at : goal.returns-then-not-note_at
-returns-then-not-note_at g c =
+pub returns-clause-read : goal.returns-clause-read
+returns-clause-read g c =
     let s = c.args.store.now in
-    let a = g.S.Archive.means s in
-    let room = g.S.Store.room s in
-    let w = beside c.args.self.now a room in
-    let i = c.in-Ok.i in
-    let x = slot_at c.args.self.now i in
-    let q = read_slot c.args.self.now.slots i c.index-self-i.result (search rules) in
-    let o = c.in_default.ensures ∙ ap (λ z. own c.args.granule z.writes) q in
-    let r = c.in-Ok.ensures.ruled in
-    let e = c.in-Ok-newest.ensures in
-    let n = c.if-not-note_at.ensures in
-    let t = c.args.stamp in
-    let k = kept w t c.args.attempt c.args.granule i x r.0 r.1 refl
-    (sym n.took) in
-    let z = set_world c.args.self.now c.note_at.new.self a room i
-    (noted c.args.granule x) n.after in
-    record {
-      arising = tt;
-      read = (
-        too_many w t c.args.attempt c.args.granule i x r.0 r.1 refl o e.0
-            (sym n.took),
-        z ∙ k,
-      );
-    }
-
-pub returns : goal.returns
-returns g c =
-    let s = c.args.store.now in
-    let a = g.S.Archive.means s in
-    let room = g.S.Store.room s in
-    let w = beside c.args.self.now a room in
-    let i = c.in-Ok.i in
-    let x = slot_at c.args.self.now i in
-    let q = read_slot c.args.self.now.slots i c.index-self-i.result (search rules) in
-    let o = c.in_default.ensures ∙ ap (λ z. own c.args.granule z.writes) q in
-    let r = c.in-Ok.ensures.ruled in
-    let e = c.in-Ok-newest.ensures in
-    let n = c.if-not-note_at.ensures in
-    let z = set_world c.args.self.now c.note_at.new.self a room i
-    (noted c.args.granule x) n.after in
-    let k = told w c.args.stamp c.args.attempt c.args.granule i x r.0 r.1 refl o
-    e.0 (sym n.took) c.in-Ok-newest.version e.1 in
-    record { arising = tt; read = (k.0, c.answer_of.ensures ∙ k.1, z ∙ k.2) }
+    let w = beside c.args.self.now (g.S.Archive.means s) (g.S.Store.room s) in
+    let by = c.args.by in
+    let x = slot_of c.in_ok-on_granule.field-0.now in
+    let h = c.in_ok-on_granule.ensures in
+    let n : M.note_fits c.args.granule (slot_with w.slots by.stamp).notes ≡ true
+    = search rules in
+    let fits = rw h.held at n in
+    let said : M.answer_of c.in_ok-version.version ≡ c.and_then.result = search rules in
+    let f : granule_fault w.store.archive c.args.granule ≡ None = search rules in
+    let v : c.in_ok-version.version ≡ newest (w.store.archive.history c.args.granule)
+    = search rules in
+    let e = told w by.stamp by.number c.args.granule x h.passes h.held
+    c.in_default.ensures f fits c.in_ok-version.version v in
+    (e.0, sym said ∙ e.1, ap (λ ys. with_slots ys w) c.note.ensures.after ∙ e.2)
