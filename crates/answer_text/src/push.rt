@@ -51,7 +51,8 @@ fn push_numbers(out: &mut Vec<u8>, numbers: &[u64]) -> Result<(), AllocError>
 }
 
 // A word, and each number after a space.
-// `Display` is no plainer: `write!` into a `Vec<u8>` fails with an `io` error, not `AllocError`.
+// `Display` is no plainer: the output is a `Vec<u8>`, into which `write!` fails with an `io` error
+// and not with `AllocError`, and a tablet's name is bytes and no `str`.
 pub(crate) fn push_word(out: &mut Vec<u8>, word: &[u8], numbers: &[u64]) -> Result<(), AllocError>
     ensures { Appends
         out.old.items out.new.items

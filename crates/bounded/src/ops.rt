@@ -1,6 +1,6 @@
 // What can be done with it. Nothing here allocates, and nothing is asked of the caller.
 ghost use Rattle.std.specs.Prelude.{◌≡◌, ◌<◌, [], ◌∷◌, ◌++◌, length, if◌then◌else◌, nat_lt};
-ghost use Rattle.std.specs.Prelude.{slice_set};
+ghost use Rattle.std.specs.Prelude.{nat_le, slice_set};
 ghost use Rattle.std.specs.Result.{is_ok};
 ghost use Rattle.bounded.specs.Listed.{listed};
 
@@ -22,6 +22,12 @@ impl<T: Copy, const N: usize> Bounded<T, N> {
         ensures len { result ≡ length (listed self.now) }
     {
         self.as_slice().len()
+    }
+
+    pub fn is_full(&self) -> bool
+        ensures { result ≡ nat_le N (length (listed self.now)) }
+    {
+        self.used >= N
     }
 
     pub fn as_slice(&self) -> &[T]
@@ -52,7 +58,7 @@ impl<T: Copy, const N: usize> Bounded<T, N> {
         ensures items { listed self.new
             ≡ (if is_ok result then listed self.old ++ (item ∷ []) else listed self.old) }
     {
-        if self.used >= N {
+        if self.is_full() {
             return Err(Full);
         }
         self.items[self.used] = item;

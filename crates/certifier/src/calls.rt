@@ -1,5 +1,6 @@
 // The calls of a transaction's life, and those that ask nothing of one. Each is given the store,
-// and says what then holds of both and where a fault arose: facts of a call, and not of a type.
+// and its clauses say what it keeps of it (`sound`, `lent`, `same`) and where a fault arose
+// (`arising`): facts of the call, which no field of certifier or store can hold.
 ghost use Rattle.std.specs.Prelude.{◌≡◌, IfOk, OnErr};
 ghost use Rattle.model.specs.declared.answer.Reply.TheVariants as Y;
 ghost use Rattle.model.specs.Calls as M;
@@ -68,7 +69,7 @@ impl Certifier {
             (S.Archive.means store.now) (S.Store.room store.now)) }
     {
         let last = self.last.ok_or(Refusal::NotOpened)?;
-        if stamp == 0 || stamp >= STAMP_LIMIT || stamp <= last {
+        if stamp <= last || stamp >= STAMP_LIMIT {
             return Err(Refusal::BadStamp { last });
         }
         take_free(&mut self.slots[..], stamp).map_err(|_| Refusal::NoFreeSlot)?;

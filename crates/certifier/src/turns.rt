@@ -1,6 +1,7 @@
 // Whose call it is: the lines of the table of refusals that most calls share. Each hands out the
 // slot of the call's own transaction: a fact of result, certifier and call, so that it stands in a
-// clause, and in no type.
+// clause, and in no type. Attempt, store and granule stay three: some calls have no granule, and
+// the store is the caller's.
 ghost use Rattle.std.specs.Prelude.{◌≡◌, [], ◌∷◌, IfOk, Some};
 ghost use Rattle.model.specs.Slots as M;
 ghost use Rattle.model.specs.Refusals.{no_transaction, of_attempt, of_phase};

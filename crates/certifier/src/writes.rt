@@ -29,7 +29,7 @@ impl Certifier {
         if slot.own(granule).is_some() {
             return Ok(());
         }
-        if slot.writes.len() >= 16 {
+        if slot.writes.is_full() {
             return Err(Refusal::TooManyWrites);
         }
         let others = other_writers(&self.slots[..], by.stamp, granule);

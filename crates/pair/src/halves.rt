@@ -30,7 +30,8 @@ impl<L, R> Pair<L, R> {
     }
 }
 
-// That both are sound is required of each call, and is no field: the traits fix it as `sound`.
+// That both are sound is no field, but the condition under which each call stands, as was asked for
+// of every store.
 impl<L: Archive, R: Archive> Pair<L, R> {
     // Whether both are shown.
     fn shows_both(&self) -> bool
@@ -107,7 +108,6 @@ impl<L: Archive, R: Archive> Archive for Pair<L, R> {
         latest.max(self.second.latest())
     }
 
-    // alike to `free_places` below: a closure for the question would be no shorter than its arms
     fn versions(&self, granule: usize) -> usize {
         match self.half(granule) {
             Some(Half::First) => self.first.versions(granule),

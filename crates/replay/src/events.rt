@@ -11,6 +11,13 @@ use model::{Attempt, Refusal, Reply};
 use script::Event;
 use store::{Archive, Store};
 
+// Who makes the call of an event, by its numbers.
+fn by(stamp: u64, number: u64) -> Attempt
+    ensures { (result.stamp ≡ stamp) × (result.number ≡ number) }
+{
+    Attempt { stamp, number }
+}
+
 // A read as the roster makes it: the entry's code, where it is of the granule's kind.
 fn read_code<S: Store>(
     certifier: &mut Certifier,
@@ -78,35 +85,28 @@ pub fn put_event<S: Store>(
         }
         Event::Read {
             stamp,
-            attempt: number,
+            attempt,
             granule,
-        } => read_code(certifier, store, Attempt { stamp, number }, granule),
+        } => read_code(certifier, store, by(stamp, attempt), granule),
         Event::Write {
             stamp,
-            attempt: number,
+            attempt,
             granule,
             code,
-        } => write_code(certifier, store, Attempt { stamp, number }, granule, code),
+        } => write_code(certifier, store, by(stamp, attempt), granule, code),
         Event::Erase {
             stamp,
-            attempt: number,
+            attempt,
             granule,
         } => {
-            certifier.erase(store, Attempt { stamp, number }, granule)?;
+            certifier.erase(store, by(stamp, attempt), granule)?;
             Ok(Reply::Recorded)
         }
-        Event::Commit {
-            stamp,
-            attempt: number,
-        } => {
-            let phase = certifier.commit(store, Attempt { stamp, number })?;
-            Ok(Reply::Committing(phase))
+        Event::Commit { stamp, attempt } => {
+            Ok(Reply::Committing(certifier.commit(store, by(stamp, attempt))?))
         }
-        Event::RollBack {
-            stamp,
-            attempt: number,
-        } => {
-            certifier.roll_back(store, Attempt { stamp, number })?;
+        Event::RollBack { stamp, attempt } => {
+            certifier.roll_back(store, by(stamp, attempt))?;
             Ok(Reply::RolledBack)
         }
         Event::Advance => Ok(Reply::Stepped(certifier.advance(store)?)),

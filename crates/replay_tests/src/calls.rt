@@ -1,6 +1,6 @@
 // The calls and their refusals, as scripts. Alike but for their scripts, and each a test of its
 // own, since its name says which rule it shows.
-use crate::runs::{expect, flat, over_roster, over_table};
+use crate::runs::{expect, over_roster, over_table};
 use std::test::Fail;
 
 #[test]
@@ -88,7 +88,7 @@ fn both_radios_down(rt: HostRuntime) -> Result<(), Fail> {
 #[test]
 fn a_foreign_code_keeps_the_note(rt: HostRuntime) -> Result<(), Fail> {
     let mut words = [3, 0];
-    let answers = over_table(rt.alloc(), &mut words, flat(1), b"o\nb 5 A\nr 5 1 0\nq 5")?;
+    let answers = over_table(rt.alloc(), &mut words, 1, b"o\nb 5 A\nr 5 1 0\nq 5")?;
     expect(
         &rt,
         answers,
@@ -101,7 +101,7 @@ fn a_foreign_code_keeps_the_note(rt: HostRuntime) -> Result<(), Fail> {
 #[test]
 fn a_refused_table_has_no_granules(rt: HostRuntime) -> Result<(), Fail> {
     let mut words = [0, 41];
-    let answers = over_table(rt.alloc(), &mut words, flat(1), b"o\nb 5 A\nr 5 1 0\n")?;
+    let answers = over_table(rt.alloc(), &mut words, 1, b"o\nb 5 A\nr 5 1 0\n")?;
     expect(&rt, answers, b"o ok 0 0\nb ok 1 A\nr no 5\n");
     Ok(())
 }

@@ -1,6 +1,6 @@
 // The limits: slots, notes, writes, free places, and the length of a script. Each is a test of its
 // own, since its name says which limit it shows.
-use crate::runs::{expect, flat, over_roster, over_table};
+use crate::runs::{expect, over_roster, over_table};
 use std::fmt::Write;
 use std::test::Fail;
 
@@ -33,7 +33,7 @@ fn sixty_four_notes(rt: HostRuntime) -> Result<(), Fail> {
     script.push_str("r 5 1 64\nr 5 1 0\nq 5\n")?;
     expected.push_str("r no 12\nr ok none\nq ok 1 1 0 64\n")?;
     let mut words = [0u64; 256];
-    let answers = over_table(rt.alloc(), &mut words, flat(128), script.as_bytes())?;
+    let answers = over_table(rt.alloc(), &mut words, 128, script.as_bytes())?;
     expect(&rt, answers, expected.as_bytes());
     Ok(())
 }
@@ -49,7 +49,7 @@ fn sixteen_writes(rt: HostRuntime) -> Result<(), Fail> {
     script.push_str("w 5 1 16 12884901888\nw 5 1 0 41\nr 5 1 0\n")?;
     expected.push_str("w no 13\nw ok\nr ok 41\n")?;
     let mut words = [0u64; 256];
-    let answers = over_table(rt.alloc(), &mut words, flat(128), script.as_bytes())?;
+    let answers = over_table(rt.alloc(), &mut words, 128, script.as_bytes())?;
     expect(&rt, answers, expected.as_bytes());
     Ok(())
 }
@@ -63,7 +63,7 @@ fn one_free_place_and_another_running_writer(rt: HostRuntime) -> Result<(), Fail
     let mut words = [0u64; 4];
     expect(
         &rt,
-        over_table(rt.alloc(), &mut words, flat(2), script)?,
+        over_table(rt.alloc(), &mut words, 2, script)?,
         expected,
     );
     Ok(())

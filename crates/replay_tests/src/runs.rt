@@ -8,11 +8,6 @@ use std::process::Abort;
 use store::{Archive, Store};
 use table::{Shape, Table};
 
-// So many granules of depth 1.
-pub(crate) fn flat(granules: usize) -> Shape {
-    Shape { granules, depth: 1 }
-}
-
 // What a script gets over a store.
 fn over<S: Store>(heap: Global, store: &mut S, script: &[u8]) -> Result<Vec<u8>, AllocError>
     requires { S.Archive.sound store.old }
@@ -23,13 +18,14 @@ fn over<S: Store>(heap: Global, store: &mut S, script: &[u8]) -> Result<Vec<u8>,
     Ok(answers)
 }
 
-// What a script gets over a table in these words.
+// What a script gets over a table in these words, of so many granules, each of depth 1.
 pub(crate) fn over_table(
     heap: Global,
     words: &mut [u64],
-    shape: Shape,
+    granules: usize,
     script: &[u8],
 ) -> Result<Vec<u8>, AllocError> {
+    let shape = Shape { granules, depth: 1 };
     over(heap, &mut Table::new(words, shape), script)
 }
 

@@ -16,7 +16,7 @@ const SHAPE: Shape = Shape {
     depth: 8,
 };
 
-const WORDS: usize = 128;
+const WORDS: usize = 2 * SHAPE.granules * SHAPE.depth;
 
 fn main(rt: HostRuntime) -> io::Result<()> {
     let mut script = Vec::new(rt.alloc());

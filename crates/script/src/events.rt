@@ -1,4 +1,5 @@
-// The events of a script. A begin keeps the tablet's name as a part of the script.
+// The events of a script. A begin keeps the tablet's name as a part of the script, and the other
+// cases hold numbers, as was asked for.
 
 #[derive(Clone, Copy, PartialEq, Eq, Debug)]
 pub enum Event<'a> {
@@ -40,6 +41,7 @@ pub enum Event<'a> {
     },
 }
 
+// What a line's letter tells, before its numbers are read.
 #[derive(Clone, Copy, PartialEq, Eq, Debug)]
 pub enum EventKind {
     Open,

@@ -4,6 +4,7 @@ ghost use Rattle.script.specs.Events.{kind_for, letter_of, said};
 
 use crate::events::{Event, EventKind};
 
+// A match of one `char` against literals, as was asked for.
 pub fn kind_of(letter: char) -> Option<EventKind>
     ensures { result ≡ kind_for letter }
 {

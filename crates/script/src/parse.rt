@@ -94,7 +94,8 @@ impl Words<'_> {
         usize::try_from(self.number()?).ok()
     }
 
-    // An event of a kind by as many words as it has numbers.
+    // An event of a kind by as many words as it has numbers. A begin, which has a name, is read
+    // apart.
     fn event<'b>(&mut self, kind: EventKind) -> Option<Event<'b>>
         ensures { option_and_then
             (λ e. at_end e (option_map (λ x. x.now) self.new.left)) (option_map said result)

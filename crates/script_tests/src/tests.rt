@@ -3,6 +3,7 @@ use answer_text::*;
 use model::*;
 use script::*;
 use std::alloc::AllocError;
+use std::process::Abort;
 use std::test::Fail;
 
 #[test]
@@ -74,6 +75,13 @@ fn letters(rt: HostRuntime) {
     }
 }
 
+// None of these lines is an event.
+fn unreadable(rt: &impl Abort, lines: &[&[u8]]) {
+    for line in lines {
+        assert!(rt; event(line).is_none());
+    }
+}
+
 #[test]
 fn bad_numbers(rt: HostRuntime) {
     let spaces: [&[u8]; 7] = [
@@ -85,9 +93,7 @@ fn bad_numbers(rt: HostRuntime) {
         b"r ",
         b"b 8 P3 ",
     ];
-    for line in spaces {
-        assert!(rt; event(line).is_none());
-    }
+    unreadable(&rt, &spaces);
     let numbers: [&[u8]; 7] = [
         b"q 08",
         b"q 00",
@@ -97,9 +103,7 @@ fn bad_numbers(rt: HostRuntime) {
         b"q 1a",
         b"q \t1",
     ];
-    for line in numbers {
-        assert!(rt; event(line).is_none());
-    }
+    unreadable(&rt, &numbers);
 }
 
 #[test]
@@ -114,9 +118,7 @@ fn bad_counts(rt: HostRuntime) {
         b"c 8",
         b"n",
     ];
-    for line in counts {
-        assert!(rt; event(line).is_none());
-    }
+    unreadable(&rt, &counts);
 }
 
 #[test]
@@ -129,13 +131,9 @@ fn bad_names_and_letters(rt: HostRuntime) {
         b"b P3",
         b"b 8 P 3",
     ];
-    for line in names {
-        assert!(rt; event(line).is_none());
-    }
+    unreadable(&rt, &names);
     let letters: [&[u8]; 7] = [b"", b"p 8 1 9 4", b"t 8", b"x", b"O", b"oo", b"\xFF"];
-    for line in letters {
-        assert!(rt; event(line).is_none());
-    }
+    unreadable(&rt, &letters);
 }
 
 // Four numbers of 20, 20, 2 and 18 or 19 digits make a line of 64 or 65 bytes.
@@ -148,21 +146,21 @@ fn long_lines(rt: HostRuntime) {
 }
 
 // How many lines a script has, and how many of them are events.
-fn count(script: &[u8]) -> [usize; 2] {
+fn count(script: &[u8]) -> (usize, usize) {
     let events = Lines::of(script).filter(|line| event(line).is_some());
-    [Lines::of(script).count(), events.count()]
+    (Lines::of(script).count(), events.count())
 }
 
 #[test]
 fn lines(rt: HostRuntime) {
-    let cases: [(&[u8], [usize; 2]); 7] = [
-        (b"", [0, 0]),
-        (b"\n", [1, 0]),
-        (b"o", [1, 1]),
-        (b"o\n", [1, 1]),
-        (b"o\ns", [2, 2]),
-        (b"o\n\ns\n", [3, 2]),
-        (b"o\r\ns\n\n", [3, 1]),
+    let cases: [(&[u8], (usize, usize)); 7] = [
+        (b"", (0, 0)),
+        (b"\n", (1, 0)),
+        (b"o", (1, 1)),
+        (b"o\n", (1, 1)),
+        (b"o\ns", (2, 2)),
+        (b"o\n\ns\n", (3, 2)),
+        (b"o\r\ns\n\n", (3, 1)),
     ];
     for (script, expected) in cases {
         assert_eq!(rt; count(script), expected);
@@ -269,6 +267,7 @@ fn refused(rt: HostRuntime) -> Result<(), Fail> {
                 phase: Phase::Section,
             }),
         ),
+        // no event, so that the refusal beside it is not written
         (b"p 8", Err(Refusal::NotOpened)),
     ];
     answers(&mut out, &cases)?;

@@ -4,7 +4,8 @@ ghost use Rattle.model.specs.Slots.{conflict};
 
 use model::Write;
 
-// The first granule, in order of writing, that is among the notes.
+// The first granule, in order of writing, that is among the notes. Loops in each other with a
+// label, as was asked for.
 pub(crate) fn first_conflict(writes: &[Write], notes: &[usize]) -> Option<usize>
     ensures { result ≡ conflict writes.now notes.now }
 {

@@ -41,12 +41,7 @@ impl Slot {
     pub fn release(&mut self)
         ensures { slot_of self.new ≡ M.free_slot }
     {
-        self.stamp = 0;
-        self.attempt = 0;
-        self.phase = Phase::Free;
-        self.forget();
-        self.puts = 0;
-        self.mark = Mark::Unmarked;
+        *self = Slot::free();
     }
 
     // Empties notes and writes.
@@ -137,6 +132,7 @@ impl Slot {
         self.attempt = self.attempt.saturating_add(1);
         self.phase = Phase::Running;
         self.forget();
+        // no mark is left to be checked
         self.pass();
     }
 

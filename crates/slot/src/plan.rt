@@ -17,11 +17,11 @@ impl Slot {
     {
         let writes = self.writes.as_slice();
         let notes = junior.notes.as_slice();
-        match junior.mark {
-            Mark::Marked(n) if n < notes.len() => first_conflict(writes, &notes[0..n]),
-            Mark::Marked(_) => first_conflict(writes, notes),
-            _ => first_conflict(writes, &[]),
-        }
+        let n = match junior.mark {
+            Mark::Marked(n) => n.min(notes.len()),
+            _ => 0,
+        };
+        first_conflict(writes, &notes[..n])
     }
 }
 

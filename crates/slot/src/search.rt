@@ -90,7 +90,8 @@ fn elder<'a>(best: Option<&'a Slot>, slot: &'a Slot) -> Option<&'a Slot>
     }
 }
 
-// The oldest of those that pass a test.
+// The oldest of those that pass a test. A loop, since the library's `min_by_key` does not promise
+// the first of those of one age.
 pub(crate) fn oldest<F: Fn(&Slot) -> bool>(slots: &[Slot], test: F) -> Option<&Slot>
     requires { F.IsAlwaysCallable test }
     ensures { IsOldest (FnReturnsAt F.Fn test)
@@ -182,6 +183,9 @@ pub fn note(slots: &mut [Slot], stamp: u64, granule: usize) -> Result<(), Full>
         None => Ok(()),
     }
 }
+
+// What calls do to a slot stands in these three. `change` is not handed out, so that no call can do
+// anything else to one.
 
 // Records a write in the slot that has this stamp, where it fits.
 pub fn record(slots: &mut [Slot], stamp: u64, granule: usize, content: Content)

@@ -1,5 +1,6 @@
 // Words that the check refuses: each kind of damage, with its number and place. Each kind is a test
 // of its own, since its name says which it is.
+use crate::words::zeros;
 use table::{Shape, TableFault, check_words};
 
 fn check(words: &[u64], granules: usize, depth: usize) -> Result<(), TableFault> {
@@ -47,15 +48,11 @@ fn used_after_unused(rt: HostRuntime) {
     assert_eq!(rt; check(&[0, 0, 1, 7], 1, 2), wrong(2));
 }
 
-fn zeros() -> [u64; 8194] {
-    [0; 8194]
-}
-
 #[test]
 fn shapes(rt: HostRuntime) {
-    assert_eq!(rt; check(&zeros(), 4097, 1), misshapen());
-    assert_eq!(rt; check(&zeros(), 1, 0), misshapen());
-    assert_eq!(rt; check(&zeros(), 1, 65), misshapen());
+    assert_eq!(rt; check(&zeros::<8194>(), 4097, 1), misshapen());
+    assert_eq!(rt; check(&zeros::<8194>(), 1, 0), misshapen());
+    assert_eq!(rt; check(&zeros::<8194>(), 1, 65), misshapen());
     assert_eq!(rt; check(&[0; 3], 1, 2), misshapen());
-    assert_eq!(rt; check(&zeros(), 64, 64), Ok(()));
+    assert_eq!(rt; check(&zeros::<8194>(), 64, 64), Ok(()));
 }

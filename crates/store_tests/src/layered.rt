@@ -1,5 +1,6 @@
 // Pairs, links and a pile of them.
 use crate::append::append_and_read;
+use crate::words::zeros;
 use link::Link;
 use model::{Content, Version};
 use pair::Pair;
@@ -17,14 +18,10 @@ fn shown(first: &mut [u64], n: usize, second: &mut [u64], m: usize) -> usize {
     pair.granules()
 }
 
-fn zeros() -> [u64; 8192] {
-    [0; 8192]
-}
-
 // With more than 4,096 granules together a pair shows the first half only.
 #[test]
 fn too_many(rt: HostRuntime) {
-    let mut first = zeros();
+    let mut first = zeros::<8192>();
     let mut second = [0; 4];
     assert_eq!(rt; shown(&mut first, 4095, &mut second, 1), 4096);
     assert_eq!(rt; shown(&mut first, 4095, &mut second, 2), 4095);

@@ -11,5 +11,7 @@ mod faults;
 mod layered;
 #[cfg(test)]
 mod lent;
+#[cfg(test)]
+mod words;
 
 pub use append::append_and_read;

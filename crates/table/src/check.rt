@@ -37,10 +37,8 @@ impl TableFault {
     }
 }
 
-// The two words of a pair are passed as they are read from the slice: a struct of the two would
-// only be taken apart again.
-
-// Whether a pair of words is unused.
+// Whether a pair of words is unused. The two are passed as they are read from the slice: a struct
+// of them would only be taken apart again.
 fn unused(first: u64, second: u64) -> bool
     ensures { result ≡ is_unused first second }
 {
@@ -65,8 +63,8 @@ fn wrong(last: u64, met: bool, first: u64, second: u64) -> bool
 }
 
 impl Pairs<'_> {
-    // Refuses the first wrong pair. A loop with an index, since it carries the previous stamp and
-    // whether an unused pair was met.
+    // Refuses the first wrong pair. A loop over pairs with an index, as was asked for; it carries
+    // the previous stamp and whether an unused pair was met.
     fn check(&self) -> Result<(), TableFault>
         ensures { result ≡ pair_verdict
             (wrong_pair self.now.words.now self.now.first self.now.depth 0 false) }
@@ -103,12 +101,7 @@ pub fn check_words(words: &[u64], shape: Shape) -> Result<(), TableFault>
         return Err(TableFault::Shape);
     }
     for g in 0..granules {
-        let pairs = Pairs {
-            words,
-            first: g * depth,
-            depth,
-        };
-        pairs.check()?;
+        Pairs::of(words, shape, g).check()?;
     }
     Ok(())
 }

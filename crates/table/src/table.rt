@@ -15,7 +15,8 @@ use store::{Archive, Store};
 
 const LAYER: u8 = 1;
 
-// That the words are sound is no field of it: the traits fix it as the condition `sound`.
+// That the words are sound is no field of it, but the condition `sound` under which each call
+// stands, as was asked for of every store.
 #[derive(Drop)]
 pub struct Table<'a> {
     words: &'a mut [u64],
@@ -57,15 +58,10 @@ impl<'a> Table<'a> {
             × (p.first ≡ granule * self.now.shape.depth)
             × (p.depth ≡ self.now.shape.depth)) }
     {
-        let Shape { granules, depth } = self.shape;
-        if granule >= granules {
+        if granule >= self.shape.granules {
             return None;
         }
-        Some(Pairs {
-            words: self.words,
-            first: granule * depth,
-            depth,
-        })
+        Some(Pairs::of(self.words, self.shape, granule))
     }
 
     // The last stamp of a granule, 0 if it has no version.

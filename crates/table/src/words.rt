@@ -5,6 +5,7 @@ ghost use Rattle.std.specs.Prelude.{◌≡◌, ◌+◌, ◌*◌, ◌^◌, ◌<�
 ghost use Rattle.model.specs.Archives.{top};
 ghost use Rattle.table.specs.Words.{version_of, versions_in, put_at, Placed};
 
+use crate::check::Shape;
 use model::{Cause, Content, STAMP_LIMIT, Version};
 
 // Bit 63 of a first word.
@@ -23,13 +24,30 @@ pub(crate) fn decode(first: u64, second: u64) -> Version
     Version { stamp, content }
 }
 
-// The pairs of words of one granule, `depth` of them from pair `first` on.
+// The pairs of words of one granule, `depth` of them from pair `first` on. The words are those of
+// the whole table, since a wrong pair and a place are told by where they stand there.
 #[derive(Clone, Copy)]
 pub(crate) struct Pairs<'a> {
     pub(crate) words: &'a [u64],
     pub(crate) first: usize,
     pub(crate) depth: usize,
     ghost within: { 2 * (first + depth) ≤ length words.now },
+}
+
+impl<'a> Pairs<'a> {
+    // Those of a granule.
+    pub(crate) fn of(words: &'a [u64], shape: Shape, granule: usize) -> Pairs<'a>
+        requires { 2 * (granule * shape.depth + shape.depth) ≤ length words.now }
+        ensures words { result.words.now ≡ words.now }
+        ensures first { result.first ≡ granule * shape.depth }
+        ensures depth { result.depth ≡ shape.depth }
+    {
+        Pairs {
+            words,
+            first: granule * shape.depth,
+            depth: shape.depth,
+        }
+    }
 }
 
 impl Pairs<'_> {
