@@ -70,9 +70,13 @@ impl<L: Archive, R: Archive> Pair<L, R> {
             (L.Archive.means self.now.first)
             (R.Archive.means self.now.second) granule result }
     {
-        match self.half(granule) {
-            Some(half) if granule < self.granules() => Ok(half),
-            _ => Err(Fault::new(Cause::Missing, LAYER, granule)),
+        let n = self.first.granules();
+        if granule < n {
+            Ok(Half::First)
+        } else if granule < self.granules() {
+            Ok(Half::Second(granule - n))
+        } else {
+            Err(Fault::new(Cause::Missing, LAYER, granule))
         }
     }
 }
