@@ -1,7 +1,7 @@
 // The table: layer 1. It stands on lent words, and granule g begins at word 2 * g * depth. All
 // its granules are within reach, and a notice leaves it as it is.
 ghost use Rattle.std.specs.Prelude.{◌≡◌, ◌*◌, ◌<◌, ◌≤◌, [], ◌∷◌, OnErr, MatchOption};
-ghost use Rattle.model.specs.Archives.{top};
+ghost use Rattle.model.specs.Archives.{top, top_below};
 ghost use Rattle.model.specs.Stores.{Arose};
 ghost use Rattle.table.specs.Words.{table_archive, table_room};
 ghost use Rattle.table.specs.Check.{SoundTable, PutTable};
@@ -74,6 +74,16 @@ impl<'a> Table<'a> {
         self.pairs(granule).map_or(0, |pairs| pairs.last_stamp())
     }
 
+    // The latest stamp of the granules below this one.
+    fn latest_below(&self, granule: usize) -> u64
+        requires { SoundTable
+            self.now.words.now self.now.shape.granules self.now.shape.depth }
+        ensures { result ≡ top_below granule (table_archive
+            self.now.words.now self.now.shape.granules self.now.shape.depth).history }
+    {
+        (0..granule).fold(0u64, |latest, g| latest.max(self.last_stamp(g)))
+    }
+
     // What `append` does, with what then stands in the words.
     pub(crate) fn put(&mut self, granule: usize, version: Version) -> Result<(), Fault>
         requires { SoundTable
@@ -109,10 +119,7 @@ impl Archive for Table<'_> {
     }
 
     fn latest(&self) -> u64 {
-        (0..self.shape.granules)
-            .map(|g| self.last_stamp(g))
-            .max()
-            .unwrap_or(0)
+        self.latest_below(self.shape.granules)
     }
 
     fn versions(&self, granule: usize) -> usize {
