@@ -1,10 +1,10 @@
 -- Text after text.
-use Rattle.std.proofs.Common.{◌≡◌, ℕ, ◌+◌, ◌<◌, true, List, [], ◌∷◌, ◌++◌, length, get_or, take}
+use Rattle.std.proofs.Common.{◌≡◌, ℕ, ◌+◌, ◌/◌, ◌%◌, ◌<◌, true, List, [], ◌∷◌, ◌++◌, length, get_or, take}
 use Rattle.std.proofs.Common.{is_err, Ok, Err, decimal, Result, sym, refl, ap, ◌∙◌, append_assoc}
-use Rattle.std.proofs.Common.{append-nil, codes, arith}
+use Rattle.std.proofs.Common.{append-nil}
 use Rattle.std.proofs.lemmas.List.{take_more}
 use Rattle.std.proofs.lemmas.Bool.{false≢true}
-use Rattle.std.proofs.lemmas.Fmt.{decimal_step, decimal_digit}
+use Rattle.std.proofs.lemmas.Fmt.{decimal_digit}
 use Rattle.script.specs.declared.unread.Unread.{Unread}
 use Rattle.script.specs.declared.unread.Unread.TheVariants as U
 use Rattle.script.specs.Unreads.{unread_number}
@@ -15,7 +15,7 @@ use Rattle.answer_text.specs.Texts.{unread_line}
 pub joins : (a b c s t : List ℕ) → b ≡ a ++ s → c ≡ b ++ t → c ≡ a ++ (s ++ t)
 joins a b c s t p q = q ∙ (ap (λ x. x ++ t) p ∙ append_assoc a s t)
 
-begins_on : (a b c s : List ℕ) → b ≡ a ++ s → Begins b c → Begins a c
+pub begins_on : (a b c s : List ℕ) → b ≡ a ++ s → Begins b c → Begins a c
 begins_on a b c s p h = (s ++ h.0, joins a b c s h.0 p h.1)
 
 spaced_more : (ns ms : List ℕ) → spaced (ns ++ ms) ≡ spaced ns ++ spaced ms
@@ -38,16 +38,12 @@ pub appends_part : {X E : Type 0} (a b c s t : List ℕ) (r : Result X E) → b 
 appends_part a b c s t (Ok x) p h e = absurd (false≢true e)
 appends_part a b c s t (Err x) p h e = begins_on a b c s p h
 
--- the line of what is not read
-unread_text : (w : Unread) → unread_line w ≡ codes "? no" ++ spaced (unread_number w ∷ [])
-unread_text U.Line =
-    rw (decimal_step 16 (omega arith) (omega arith), decimal_digit 1 (omega arith))
-unread_text U.Script =
-    rw (decimal_step 17 (omega arith) (omega arith), decimal_digit 1 (omega arith))
+-- the line of what is not read, byte by byte, with the two digits of its number
+pub unread_bytes : (w : Unread) → unread_line w ++ (10 ∷ [])
+    ≡ 63 ∷ (32 ∷ (110 ∷ (111 ∷ (32 ∷ ((48 + unread_number w / 10)
+    ∷ ((48 + unread_number w % 10) ∷ (10 ∷ [])))))))
+unread_bytes U.Line = refl
+unread_bytes U.Script = refl
 
-pub appends_unread : {X E : Type 0} (a b c : List ℕ) (w : Unread) (r : Result X E)
-    → b ≡ a ++ (codes "? no" ++ spaced (unread_number w ∷ [])) → Appends b c (10 ∷ []) r
-    → Appends a c (unread_line w ++ (10 ∷ [])) r
-appends_unread a b c w (Ok x) p h =
-    joins a b c _ (10 ∷ []) p h ∙ ap (λ t. a ++ (t ++ (10 ∷ []))) (sym (unread_text w))
-appends_unread a b c w (Err e) p h = begins_on a b c _ p h
+-- a number of one digit
+pub ruleset digit = (decimal_digit)

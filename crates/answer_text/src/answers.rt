@@ -5,7 +5,7 @@ ghost use Rattle.script.specs.Events.{said};
 ghost use Rattle.answer_text.specs.Output.{Appends};
 ghost use Rattle.answer_text.specs.Texts.{outcome_text, answer_line, unread_line};
 
-use crate::push::{push_byte, push_word};
+use crate::push::{push_byte, push_bytes};
 use crate::replies::{push_refusal, push_reply};
 use model::{Refusal, Reply};
 use script::{Event, Unread};
@@ -42,12 +42,14 @@ pub fn push_answer(
 }
 
 // The answer to a line that is no event, or to a script that is too long.
-#[tactic(auto, using(crate::proofs::Appended::appends_unread))]
+#[tactic(auto, using(crate::proofs::Appended::unread_bytes))]
 pub fn push_unread(out: &mut Vec<u8>, why: Unread) -> Result<(), AllocError>
     ensures { Appends
         out.old.items out.new.items
         (unread_line why ++ (10 ∷ [])) result }
 {
-    push_word(out, b"? no", &[u64::from(why.number())])?;
-    push_byte(out, b'\n')
+    // in one piece: a script may have nothing but such lines
+    let number = why.number();
+    let (tens, ones) = (b'0' + number / 10, b'0' + number % 10);
+    push_bytes(out, &[b'?', b' ', b'n', b'o', b' ', tens, ones, b'\n'])
 }

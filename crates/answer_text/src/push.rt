@@ -10,7 +10,8 @@ pub(crate) fn push_byte(out: &mut Vec<u8>, byte: u8) -> Result<(), AllocError>
     ensures { Appends
         out.old.items out.new.items (byte ∷ []) result }
 {
-    push_bytes(out, &[byte])
+    out.push(byte)?;
+    Ok(())
 }
 
 pub(crate) fn push_bytes(out: &mut Vec<u8>, bytes: &[u8]) -> Result<(), AllocError>
@@ -20,11 +21,15 @@ pub(crate) fn push_bytes(out: &mut Vec<u8>, bytes: &[u8]) -> Result<(), AllocErr
     out.extend_from_slice(bytes)
 }
 
-// A number in decimal.
+// A number in decimal. Most are one digit, which needs no buffer.
+#[tactic(auto, using(crate::proofs::Appended::digit))]
 fn push_number(out: &mut Vec<u8>, n: u64) -> Result<(), AllocError>
     ensures { Appends
         out.old.items out.new.items (decimal n) result }
 {
+    if n < 10 {
+        return push_byte(out, b'0' + n as u8);
+    }
     push_bytes(out, Buffer::new().format(n).as_bytes())
 }
 
