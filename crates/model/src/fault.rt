@@ -1,5 +1,6 @@
 // Faults: how a store refuses.
 ghost use Rattle.std.specs.Prelude.{◌≡◌};
+ghost use Rattle.model.specs.Numbers.{cause_number};
 
 // Why a store refuses, with the number of each cause.
 #[derive(Clone, Copy, PartialEq, Eq, Debug)]
@@ -10,6 +11,14 @@ pub enum Cause {
     // the stamp is out of range, or not above the granule's last
     BadStamp = 23,
     NoFreePlace = 24,
+}
+
+impl Cause {
+    pub fn number(self) -> u8
+        ensures { result ≡ cause_number self }
+    {
+        self as u8
+    }
 }
 
 // A cause, the layer where it arose, and the granule as that layer counts it.

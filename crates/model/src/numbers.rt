@@ -1,19 +1,10 @@
-// The numbers of causes, phases and refusals.
+// The numbers of phases and refusals; that of a cause stands beside it.
 ghost use Rattle.std.specs.Prelude.{◌≡◌};
-ghost use Rattle.model.specs.Numbers.{cause_number, phase_number, refusal_number, live};
+ghost use Rattle.model.specs.Numbers.{phase_number, refusal_number, live};
 ghost use Rattle.model.specs.Refusals.{running, running_or_waiting};
 
 use crate::answer::Refusal;
-use crate::fault::Cause;
 use crate::phase::Phase;
-
-impl Cause {
-    pub fn number(self) -> u8
-        ensures { result ≡ cause_number self }
-    {
-        self as u8
-    }
-}
 
 impl Phase {
     pub fn number(self) -> u8
