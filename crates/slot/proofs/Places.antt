@@ -62,11 +62,11 @@ module _ (t : ℕ) where
 
 -- the first free slot
 
-record Vacant (xs : List M.Slot) (i : ℕ) : Type 0 where
+pub record Vacant (xs : List M.Slot) (i : ℕ) : Type 0 where
   pub some : M.full xs ≡ false
   pub places : (y : M.Slot) → M.place y xs ≡ set xs i y
 
-vacant : (xs : List Slot) (i : ℕ) → Some i ≡ position_from (λ x. M.is_free (slot_of x)) 0 xs
+pub vacant : (xs : List Slot) (i : ℕ) → Some i ≡ position_from (λ x. M.is_free (slot_of x)) 0 xs
     → Vacant (slots_of xs) i
 vacant xs i e =
     at_place M.is_free Vacant

@@ -8,22 +8,22 @@ use Rattle.slot.specs.Changes.{place_of, recorded_in}
 use Rattle.slot.proofs.Chains.{at_place, nowhere}
 
 -- the write of g stands at place i
-record Written (g : ℕ) (ws : List Write) (i : ℕ) : Type 0 where
+pub record Written (g : ℕ) (ws : List Write) (i : ℕ) : Type 0 where
   pub own : is_some (M.own g ws) ≡ true
   pub sets : (c : Content) → M.set_own g c ws ≡ set ws i (M.write_to g c)
 
-written : (g : ℕ) (ws : List Write) (i : ℕ) → Some i ≡ place_of g ws → Written g ws i
+pub written : (g : ℕ) (ws : List Write) (i : ℕ) → Some i ≡ place_of g ws → Written g ws i
 written g ws i e =
     at_place (λ w. w.granule == g) (Written g)
     (λ w us q. record { own = rw q; sets = λ c. rw q })
     (λ w us k q s. record { own = rw q s.own; sets = λ c. rw (q, s.sets c) }) ws i e
 
 -- g is not written yet
-record Unwritten (g : ℕ) (ws : List Write) : Type 0 where
+pub record Unwritten (g : ℕ) (ws : List Write) : Type 0 where
   pub own : M.own g ws ≡ None
   pub sets : (c : Content) → M.set_own g c ws ≡ ws ++ (M.write_to g c ∷ [])
 
-unwritten : (g : ℕ) (ws : List Write) → None ≡ place_of g ws → Unwritten g ws
+pub unwritten : (g : ℕ) (ws : List Write) → None ≡ place_of g ws → Unwritten g ws
 unwritten g ws e =
     nowhere (λ w. w.granule == g) (Unwritten g) (record { own = refl; sets = λ c. refl })
     (λ w us q s. record { own = rw q s.own; sets = λ c. rw (q, s.sets c) }) ws e

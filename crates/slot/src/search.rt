@@ -184,8 +184,8 @@ pub fn note(slots: &mut [Slot], stamp: u64, granule: usize) -> Result<(), Full>
     }
 }
 
-// What calls do to a slot stands in these three. `change` is not handed out, so that no call can do
-// anything else to one.
+// What a commit, a write and an erase do to the slot of their transaction. `change`, which takes any
+// change, is for this crate alone.
 
 // Records a write in the slot that has this stamp, where it fits.
 pub fn record(slots: &mut [Slot], stamp: u64, granule: usize, content: Content)
