@@ -184,8 +184,8 @@ pub fn note(slots: &mut [Slot], stamp: u64, granule: usize) -> Result<(), Full>
     }
 }
 
-// What a commit, a write and an erase do to the slot of their transaction. `change`, which takes any
-// change, is for this crate alone.
+// What a commit, a write and an erase do to the slot of their transaction. `change`, which takes
+// any change, is for this crate alone.
 
 // Records a write in the slot that has this stamp, where it fits.
 pub fn record(slots: &mut [Slot], stamp: u64, granule: usize, content: Content)

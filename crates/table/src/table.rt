@@ -74,7 +74,8 @@ impl<'a> Table<'a> {
         self.pairs(granule).map_or(0, |pairs| pairs.last_stamp())
     }
 
-    // The latest stamp of the granules below this one.
+    // The latest stamp of the granules below this one. A fold, which takes half as long as the
+    // greatest of the mapped stamps.
     fn latest_below(&self, granule: usize) -> u64
         requires { SoundTable
             self.now.words.now self.now.shape.granules self.now.shape.depth }
