@@ -62,8 +62,8 @@ impl<L: Archive, R: Archive> Pair<L, R> {
         }
     }
 
-    // The half that has a granule. It does not go through `half`, so that for a granule of the
-    // first half nothing is asked of the second.
+    // The half that has a granule. For one of the first half only that half is asked how many it
+    // has, so that a pile of pairs is not counted.
     fn half_with(&self, granule: usize) -> Result<Half, Fault>
         requires sound_first { L.Archive.sound self.now.first }
         requires sound_second { R.Archive.sound self.now.second }
